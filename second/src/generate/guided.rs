@@ -1,0 +1,296 @@
+//! Sequences of steps guided by the ledger they meet: document 01, "The ten
+//! steps" and "When a step is turned away".
+//!
+//! The store is filled and emptied in phases, and a part of the steps is aimed
+//! at one row of the table each.
+
+mod changes;
+
+use super::{expiry, number, role, step_at};
+use crate::ledger::Ledger;
+use crate::random::Random;
+use crate::records::{Kind, Role, Step, LAST_CODE, NAMES};
+use changes::{
+    break_value, change_currency, change_epoch, change_hold, change_object, change_slot,
+};
+
+const CURRENCIES: [u16; 7] = [0, 1, 756, 840, 978, 985, 999];
+
+/// What most steps of a stretch of the sequence do.
+#[derive(Debug, Clone, Copy, PartialEq, Eq)]
+enum Phase {
+    /// Puts, until the store is full.
+    Fill,
+    /// New manifests and holds on them, until eight hold eight manifests.
+    Hold,
+    /// Expiries, fences and collections.
+    Empty,
+    /// Every kind alike.
+    Mix,
+}
+
+#[derive(Debug, Clone, Copy, PartialEq, Eq)]
+enum Sort {
+    Fence,
+    Put,
+    Commit,
+    Compact,
+    Hold,
+    Renew,
+    Release,
+    List,
+    Look,
+    Collect,
+}
+
+const ALL: [Sort; 10] = [
+    Sort::Fence,
+    Sort::Put,
+    Sort::Commit,
+    Sort::Compact,
+    Sort::Hold,
+    Sort::Renew,
+    Sort::Release,
+    Sort::List,
+    Sort::Look,
+    Sort::Collect,
+];
+
+#[derive(Debug, Clone)]
+pub struct Guide {
+    random: Random,
+    phase: Phase,
+    left: u64,
+}
+
+impl Guide {
+    pub fn new(seed: u64) -> Self {
+        Guide { random: Random::new(seed), phase: Phase::Mix, left: 10 }
+    }
+
+    /// A sequence of that length from the fresh ledger.
+    pub fn sequence(&mut self, length: usize) -> Vec<Step> {
+        let mut ledger = Ledger::fresh();
+        let mut steps = Vec::with_capacity(length);
+        for _ in 0..length {
+            let step = self.next(&ledger);
+            ledger.step(&step);
+            steps.push(step);
+        }
+        steps
+    }
+
+    /// The next step for that ledger.
+    pub fn next(&mut self, ledger: &Ledger) -> Step {
+        if self.left == 0 {
+            let phases = [Phase::Fill, Phase::Hold, Phase::Empty, Phase::Mix];
+            self.phase = self.random.pick(&phases);
+            self.left = 20 + self.random.below(120);
+        }
+        self.left -= 1;
+        match self.random.below(20) {
+            0 => {
+                let time = self.time(ledger);
+                step_at(&mut self.random, time)
+            }
+            1..=6 => {
+                let row = 2 + self.random.below(u64::from(LAST_CODE) - 1) as u8;
+                self.aimed(row, ledger)
+            }
+            _ => {
+                let sort = self.sort(ledger);
+                self.acceptable(sort, ledger)
+            }
+        }
+    }
+
+    fn sort(&mut self, ledger: &Ledger) -> Sort {
+        use Sort::*;
+        let current = ledger.current().0;
+        let held = ledger.holds.values().any(|hold| hold.manifest == current);
+        let usual: &[Sort] = match self.phase {
+            Phase::Fill => &[Put, Put, Put, Put, Put, Put, Put, Commit, Compact, Look],
+            // A second hold on one manifest would leave fewer than nine.
+            Phase::Hold if held => &[Fence, Commit, Commit, Compact, Put, List],
+            Phase::Hold => &[Hold, Hold, Hold, Hold, Fence, Commit, Renew, Put],
+            Phase::Empty => &[Fence, Release, Collect, Collect, Commit, List],
+            Phase::Mix => &ALL,
+        };
+        self.random.pick(usual)
+    }
+
+    /// A time not below the clock, often at or just behind an expiry. While
+    /// holds are gathered the clock mostly stands still.
+    fn time(&mut self, ledger: &Ledger) -> u64 {
+        let clock = ledger.clock;
+        let expiries = ledger.holds.values().map(|hold| hold.expiry);
+        let expiries: Vec<u64> = expiries.filter(|expiry| *expiry != 0).collect();
+        let quiet = matches!(self.phase, Phase::Hold | Phase::Fill);
+        match self.random.below(if quiet { 60 } else { 12 }) {
+            0 if !expiries.is_empty() => self.random.pick(&expiries),
+            1 if !expiries.is_empty() => self.random.pick(&expiries).saturating_add(1),
+            2 => clock.saturating_add(self.random.below(8)),
+            3 if self.random.once_in(400) => u64::MAX - self.random.below(3),
+            _ => clock,
+        }
+        .max(clock)
+    }
+
+    /// A step of that sort that is accepted if the ledger allows one.
+    fn acceptable(&mut self, sort: Sort, ledger: &Ledger) -> Step {
+        let time = self.time(ledger);
+        let slot = ledger.current().0.saturating_add(1);
+        let (writer, compactor) = (ledger.epoch(Role::Writer), ledger.epoch(Role::Compactor));
+        let random = &mut self.random;
+        let expiry = expiry(random, time);
+        let hold = live_hold(random, ledger, time);
+        let kind = match sort {
+            Sort::Fence => Kind::Fence { role: role(random), slot },
+            Sort::Put => put(random, ledger),
+            Sort::Commit => Kind::Commit { epoch: writer, slot },
+            Sort::Compact => {
+                let object = compactable(random, ledger);
+                Kind::Compact { epoch: compactor, slot, object }
+            }
+            Sort::Hold => new_hold(random, ledger, time),
+            Sort::Renew => Kind::Renew { hold: hold.max(1), expiry },
+            Sort::Release => Kind::Release { hold: hold.max(1) },
+            Sort::List => Kind::List { hold: random.pick(&[0, hold]) },
+            Sort::Look => look(random, ledger, hold),
+            Sort::Collect => Kind::Collect,
+        };
+        let emptied = self.phase == Phase::Empty && random.once_in(2);
+        let list = match sort {
+            Sort::Commit if !emptied => stored_list(random, ledger),
+            _ => Vec::new(),
+        };
+        Step { time, kind, list }
+    }
+
+    /// A step to which that row applies if the ledger allows one: one that
+    /// might be accepted, changed in what the row looks at.
+    fn aimed(&mut self, row: u8, ledger: &Ledger) -> Step {
+        use Sort::*;
+        let sorts: &[Sort] = match row {
+            2 => &[Put, Commit, Compact, Hold, Renew, Release, Look],
+            4 => &[Put, Commit, Compact],
+            5 => &[Commit, Compact],
+            6 | 7 => &[Fence, Commit, Compact],
+            8 => &[Commit, Compact],
+            9..=11 => &[Put],
+            12..=14 => &[Hold],
+            15 => &[Renew, Release, List, Look],
+            16 => &[Look],
+            17 => &[Compact],
+            _ => &ALL,
+        };
+        let sort = self.random.pick(sorts);
+        let mut step = self.acceptable(sort, ledger);
+        let random = &mut self.random;
+        match row {
+            2 => break_value(random, &mut step),
+            3 => step.time = ledger.clock.saturating_sub(1 + random.below(3)),
+            4 | 5 => change_epoch(random, row, &mut step.kind, ledger),
+            6 | 7 => change_slot(random, row, &mut step.kind, ledger),
+            8..=11 | 17 => change_object(random, row, &mut step, ledger),
+            12..=15 => change_hold(random, row, &mut step, ledger),
+            16 => change_currency(random, &mut step.kind),
+            _ => {}
+        }
+        step
+    }
+}
+
+/// 0 where no hold is live at that time.
+fn live_hold(random: &mut Random, ledger: &Ledger, time: u64) -> u64 {
+    let holds = ledger.holds.iter().filter(|(_, hold)| hold.live(time));
+    let live: Vec<u64> = holds.map(|(number, _)| *number).collect();
+    match live.len() {
+        0 => 0,
+        _ => random.pick(&live),
+    }
+}
+
+/// A new number, most often of the role's current epoch.
+fn put(random: &mut Random, ledger: &Ledger) -> Kind {
+    let role = role(random);
+    let current = ledger.epoch(role).max(1);
+    let epoch = match random.below(4) {
+        0 => 1 + random.below(current),
+        _ => current,
+    };
+    let gap = match random.below(2000) {
+        0 => u64::MAX,
+        1..=20 => random.below(1 << 40),
+        _ => 1 + random.below(3),
+    };
+    let object = ledger.top.saturating_add(gap.max(1));
+    let currency = random.pick(&CURRENCIES);
+    Kind::Put { role, epoch, object, currency }
+}
+
+/// At most sixteen of the stored objects, most often a few.
+fn stored_list(random: &mut Random, ledger: &Ledger) -> Vec<u64> {
+    let mut stored: Vec<u64> = ledger.objects.keys().copied().collect();
+    let wanted = match random.below(3) {
+        0 => NAMES,
+        _ => random.index(6),
+    };
+    while stored.len() > wanted {
+        let place = random.index(stored.len());
+        stored.remove(place);
+    }
+    stored
+}
+
+/// A stored object of a currency in the current list, else any number.
+fn compactable(random: &mut Random, ledger: &Ledger) -> u64 {
+    let listed = &ledger.current().1.list;
+    let currencies: Vec<u16> = listed.iter().map(|n| ledger.objects[n].currency).collect();
+    let stored = ledger.objects.iter();
+    let fitting = stored.filter(|(_, object)| currencies.contains(&object.currency));
+    let fitting: Vec<u64> = fitting.map(|(number, _)| *number).collect();
+    match fitting.len() {
+        0 => number(random).max(1),
+        _ => random.pick(&fitting),
+    }
+}
+
+/// A hold of a free number on an active manifest, most often the current one,
+/// and then of a long expiry, so that holds gather.
+fn new_hold(random: &mut Random, ledger: &Ledger, time: u64) -> Kind {
+    let taken = |hold: &u64| ledger.holds.get(hold).is_some_and(|held| held.live(time));
+    let mut hold = 1 + random.below(20);
+    while taken(&hold) {
+        hold += 1;
+    }
+    let active: Vec<u64> = ledger.active(time).into_iter().collect();
+    let manifest = match random.below(5) {
+        0 => random.pick(&active),
+        _ => ledger.current().0,
+    };
+    let expiry = match random.below(3) {
+        0 => expiry(random, time),
+        _ => time.saturating_add(random.below(200)),
+    };
+    Kind::Hold { hold, manifest, expiry }
+}
+
+/// A currency of the list that is asked for, if there is one.
+fn look(random: &mut Random, ledger: &Ledger, hold: u64) -> Kind {
+    let hold = random.pick(&[0, hold]);
+    let manifest = match ledger.holds.get(&hold) {
+        Some(held) => &ledger.manifests[&held.manifest],
+        None => ledger.current().1,
+    };
+    let currencies = manifest.list.iter().map(|name| ledger.objects[name].currency);
+    let mut fitting: Vec<u16> = currencies.filter(|currency| *currency != 0).collect();
+    if fitting.is_empty() {
+        fitting.push(1);
+    }
+    let currency = random.pick(&fitting);
+    Kind::Look { currency, hold }
+}
+
+#[cfg(test)]
+mod tests;

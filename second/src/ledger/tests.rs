@@ -1,0 +1,322 @@
+//! The depot week, each row of the table, and the errors met before.
+
+use super::*;
+use crate::raw::{from_raw, raw, RawManifest};
+
+const W: Role = Role::Writer;
+const C: Role = Role::Compactor;
+
+fn fence(role: Role, slot: u64) -> Kind {
+    Kind::Fence { role, slot }
+}
+
+fn put(role: Role, epoch: u64, object: u64, currency: u16) -> Kind {
+    Kind::Put { role, epoch, object, currency }
+}
+
+fn compact(epoch: u64, slot: u64, object: u64) -> Kind {
+    Kind::Compact { epoch, slot, object }
+}
+
+fn hold(hold: u64, manifest: u64, expiry: u64) -> Kind {
+    Kind::Hold { hold, manifest, expiry }
+}
+
+fn look(currency: u16, hold: u64) -> Kind {
+    Kind::Look { currency, hold }
+}
+
+fn list(hold: u64) -> Kind {
+    Kind::List { hold }
+}
+
+impl Ledger {
+    /// A step without a list. A refusal must leave the ledger as it was, and
+    /// every ledger must be sound.
+    fn at(&mut self, time: u64, kind: Kind) -> Verdict {
+        self.checked(time, kind, &[])
+    }
+
+    fn commit(&mut self, time: u64, epoch: u64, slot: u64, list: &[u64]) -> Verdict {
+        self.checked(time, Kind::Commit { epoch, slot }, list)
+    }
+
+    fn checked(&mut self, time: u64, kind: Kind, list: &[u64]) -> Verdict {
+        let before = self.clone();
+        let list = list.to_vec();
+        let verdict = self.step(&Step { time, kind, list });
+        match verdict {
+            Verdict::Refused(_) => assert_eq!(*self, before),
+            _ => assert_eq!(self.clock, time),
+        }
+        assert_eq!(from_raw(&raw(self)).as_ref(), Some(&*self));
+        verdict
+    }
+}
+
+fn refused(number: u8) -> Verdict {
+    Verdict::Refused(number)
+}
+
+fn listed(manifest: u64, list: &[u64]) -> Verdict {
+    let list = list.to_vec();
+    Verdict::Listed { manifest, list }
+}
+
+fn collected(list: &[u64]) -> Verdict {
+    Verdict::Collected(list.to_vec())
+}
+
+const DONE: Verdict = Verdict::Done;
+
+#[test]
+fn depot_week() {
+    let mut l = Ledger::fresh();
+    assert_eq!(l.at(10, fence(W, 1)), Verdict::Epoch(1)); // 1
+    assert_eq!(l.at(10, put(W, 1, 1, 978)), DONE); // 2
+    assert_eq!(l.at(10, put(W, 1, 2, 756)), DONE); // 3
+    assert_eq!(l.commit(11, 1, 2, &[1, 2]), DONE); // 4
+    assert_eq!(l.at(11, look(985, 0)), refused(16)); // 5
+    assert_eq!(l.at(12, hold(7, 2, 20)), DONE); // 6
+    assert_eq!(l.at(12, fence(W, 2)), refused(6)); // 7
+    assert_eq!(l.at(12, fence(W, 3)), Verdict::Epoch(2)); // 8
+    assert_eq!(l.at(13, put(W, 1, 3, 978)), DONE); // 9
+    assert_eq!(l.commit(13, 1, 4, &[3]), refused(5)); // 10
+    assert_eq!(l.at(14, put(W, 2, 4, 978)), DONE); // 11
+    assert_eq!(l.at(14, Kind::Collect), collected(&[3])); // 12
+    assert_eq!(l.commit(15, 2, 4, &[2, 4]), DONE); // 13
+    assert_eq!(l.at(20, Kind::Collect), collected(&[])); // 14
+    assert_eq!(l.at(21, Kind::Collect), collected(&[1])); // 15
+    assert_eq!(l.at(21, look(978, 7)), refused(15)); // 16
+    assert_eq!(l.at(21, put(W, 2, 3, 978)), refused(10)); // 17
+    assert_eq!(l.at(20, list(0)), refused(3)); // 18
+    assert_eq!(l.at(22, fence(C, 5)), Verdict::Epoch(1)); // 19
+    assert_eq!(l.at(22, put(C, 1, 5, 978)), DONE);
+    assert_eq!(l.at(22, compact(1, 6, 5)), DONE);
+    assert_eq!(l.at(22, list(0)), listed(6, &[2, 5]));
+    assert_eq!(l.at(22, Kind::Collect), collected(&[4]));
+}
+
+/// Writer and compactor at epoch 1, current manifest 2, clock 10.
+fn started() -> Ledger {
+    let mut ledger = Ledger::fresh();
+    ledger.at(10, fence(W, 1));
+    ledger.at(10, fence(C, 2));
+    ledger
+}
+
+#[test]
+fn malformed_goes_before_time_and_uses_the_step_s_time() {
+    let mut ledger = started();
+    assert_eq!(ledger.at(5, hold(1, 2, 3)), refused(2));
+    assert_eq!(ledger.at(5, hold(1, 2, 7)), refused(3));
+    assert_eq!(ledger.commit(5, 1, 3, &[2, 1]), refused(2));
+    assert_eq!(ledger.checked(10, Kind::Collect, &[1]), refused(2));
+    assert_eq!(ledger.at(10, look(0, 0)), refused(2));
+    assert_eq!(ledger.at(10, Kind::Release { hold: 0 }), refused(2));
+    assert_eq!(ledger.at(10, Kind::Collect), collected(&[]));
+}
+
+#[test]
+fn epochs_and_slots() {
+    let mut ledger = Ledger::fresh();
+    assert_eq!(ledger.commit(0, 0, 0, &[]), refused(4));
+    assert_eq!(ledger.at(0, put(C, 1, 1, 0)), refused(4));
+    ledger.at(0, fence(W, 1));
+    ledger.at(0, fence(W, 2));
+    assert_eq!(ledger.commit(0, 3, 9, &[]), refused(4));
+    assert_eq!(ledger.commit(0, 1, 9, &[]), refused(5));
+    assert_eq!(ledger.commit(0, 2, 2, &[8]), refused(6));
+    assert_eq!(ledger.commit(0, 2, 0, &[8]), refused(6));
+    assert_eq!(ledger.commit(0, 2, 4, &[8]), refused(7));
+    assert_eq!(ledger.commit(0, 2, u64::MAX, &[8]), refused(7));
+    assert_eq!(ledger.commit(0, 2, 3, &[8]), refused(8));
+    assert_eq!(ledger.at(0, compact(1, 3, 8)), refused(4));
+    assert_eq!(ledger.at(0, fence(C, 4)), refused(7));
+    assert_eq!(ledger.at(0, fence(C, 3)), Verdict::Epoch(1));
+    assert_eq!(ledger.at(0, compact(1, 4, 8)), refused(8));
+    assert_eq!(ledger.at(0, put(W, 1, 8, 5)), DONE);
+    assert_eq!(ledger.at(0, compact(1, 4, 8)), refused(17));
+    assert_eq!(ledger.commit(0, 2, 4, &[]), DONE);
+    assert_eq!(ledger.commit(0, 2, 5, &[8]), DONE);
+    assert_eq!(ledger.at(0, list(0)), listed(5, &[8]));
+}
+
+#[test]
+fn a_put_takes_the_lowest_free_place() {
+    let mut ledger = started();
+    for object in 1..=64 {
+        assert_eq!(ledger.at(10, put(W, 1, object, 1)), DONE);
+        assert_eq!(ledger.objects[&object].place as u64, object - 1);
+    }
+    assert_eq!(ledger.at(10, put(W, 1, 65, 1)), refused(11));
+    assert_eq!(ledger.at(10, put(W, 1, 64, 1)), refused(9));
+    assert_eq!(ledger.at(10, put(W, 2, 65, 1)), refused(4));
+    ledger.commit(10, 1, 3, &[1, 5, 9]);
+    ledger.commit(10, 1, 4, &[1]);
+    // Only 5 and 9 were named and are no longer: places 4 and 8 are free.
+    assert_eq!(ledger.at(10, Kind::Collect), collected(&[5, 9]));
+    assert_eq!(ledger.at(10, put(W, 1, 9, 1)), refused(10));
+    for (object, place) in [(70, 4), (71, 8)] {
+        assert_eq!(ledger.at(10, put(W, 1, object, 1)), DONE);
+        assert_eq!(ledger.objects[&object].place, place);
+    }
+    assert_eq!(ledger.at(10, put(W, 1, 72, 1)), refused(11));
+    assert_eq!(ledger.at(10, put(W, 1, 9, 1)), refused(10));
+}
+
+#[test]
+fn a_collected_number_is_spent_and_so_are_those_below() {
+    let mut ledger = started();
+    ledger.at(10, put(W, 1, 8, 5));
+    ledger.at(10, fence(W, 3));
+    assert_eq!(ledger.at(10, Kind::Collect), collected(&[8]));
+    assert_eq!(ledger.at(10, put(W, 2, 8, 5)), refused(10));
+    assert_eq!(ledger.at(10, put(W, 2, 7, 5)), refused(10));
+    assert_eq!(ledger.at(10, put(W, 2, 9, 5)), DONE);
+}
+
+#[test]
+fn holds_live_until_their_expiry_and_no_longer() {
+    let mut ledger = started();
+    ledger.at(10, hold(7, 2, 20));
+    ledger.at(10, fence(W, 3));
+    assert_eq!(ledger.at(20, hold(7, 2, 30)), refused(12));
+    assert_eq!(ledger.at(20, list(7)), listed(2, &[]));
+    // At 21 the hold is still in the ledger but not live, and manifest 2 is
+    // still kept but not active.
+    assert_eq!(ledger.at(21, list(7)), refused(15));
+    assert_eq!(ledger.at(21, Kind::Renew { hold: 7, expiry: 0 }), refused(15));
+    assert_eq!(ledger.at(21, Kind::Release { hold: 7 }), refused(15));
+    assert_eq!(ledger.at(21, hold(7, 2, 30)), refused(13));
+    assert_eq!(ledger.manifests.len(), 2);
+    assert_eq!(ledger.at(21, hold(7, 3, 30)), DONE);
+    assert_eq!(ledger.manifests.len(), 1);
+    assert_eq!(ledger.holds[&7].manifest, 3);
+}
+
+#[test]
+fn renewing_and_releasing() {
+    let mut ledger = started();
+    ledger.at(10, hold(7, 2, 20));
+    assert_eq!(ledger.at(20, Kind::Renew { hold: 7, expiry: 0 }), DONE);
+    assert_eq!(ledger.at(u64::MAX - 1, list(7)), listed(2, &[]));
+    let last = u64::MAX - 1;
+    assert_eq!(ledger.at(last, Kind::Renew { hold: 7, expiry: last }), DONE);
+    assert_eq!(ledger.at(u64::MAX, list(7)), refused(15));
+    ledger.at(last, fence(W, 3));
+    assert_eq!(ledger.manifests.len(), 2);
+    assert_eq!(ledger.at(last, Kind::Release { hold: 7 }), DONE);
+    assert_eq!(ledger.manifests.len(), 1);
+    assert_eq!(ledger.at(last, hold(7, 2, 0)), refused(13));
+    assert_eq!(ledger.at(last, Kind::Release { hold: 7 }), refused(15));
+}
+
+#[test]
+fn nine_manifests_are_enough() {
+    let mut ledger = started();
+    for number in 1..=8 {
+        assert_eq!(ledger.at(10, hold(number, number + 1, 10 + number)), DONE);
+        ledger.at(10, fence(W, number + 2));
+    }
+    assert_eq!(ledger.manifests.len(), 9);
+    assert_eq!(ledger.at(10, hold(9, 10, 0)), refused(14));
+    assert_eq!(ledger.at(10, hold(9, 11, 0)), refused(13));
+    assert_eq!(ledger.at(10, hold(8, 11, 0)), refused(12));
+    assert_eq!(ledger.commit(10, ledger.epoch(W), 11, &[]), DONE);
+    assert_eq!(ledger.manifests.len(), 9);
+    // Hold 1 expires at 11 and is no longer counted at 12.
+    assert_eq!(ledger.at(11, hold(9, 11, 0)), refused(14));
+    assert_eq!(ledger.at(12, hold(9, 11, 0)), DONE);
+    assert_eq!((ledger.manifests.len(), ledger.holds.len()), (8, 8));
+}
+
+#[test]
+fn looks_answer_the_highest_of_the_currency() {
+    let mut ledger = started();
+    for (object, currency) in [(1, 978), (2, 978), (3, 756), (4, 0)] {
+        ledger.at(10, put(W, 1, object, currency));
+    }
+    ledger.commit(10, 1, 3, &[1, 2, 3, 4]);
+    assert_eq!(ledger.at(10, look(978, 0)), Verdict::Found(2));
+    assert_eq!(ledger.at(10, look(756, 0)), Verdict::Found(3));
+    assert_eq!(ledger.at(10, look(985, 0)), refused(16));
+    ledger.at(10, hold(5, 3, 0));
+    ledger.commit(10, 1, 4, &[1]);
+    assert_eq!(ledger.at(10, look(978, 5)), Verdict::Found(2));
+    assert_eq!(ledger.at(10, look(978, 0)), Verdict::Found(1));
+    assert_eq!(ledger.at(10, look(756, 0)), refused(16));
+    assert_eq!(ledger.at(10, look(985, 6)), refused(15));
+}
+
+#[test]
+fn compaction_replaces_a_currency() {
+    let mut ledger = started();
+    for (object, currency) in [(1, 5), (2, 0), (3, 5), (4, 0), (5, 6)] {
+        ledger.at(10, put(W, 1, object, currency));
+    }
+    ledger.commit(10, 1, 3, &[1, 2, 3]);
+    assert_eq!(ledger.at(10, compact(1, 4, 5)), refused(17));
+    assert_eq!(ledger.at(10, compact(1, 4, 4)), DONE);
+    assert_eq!(ledger.at(10, list(0)), listed(4, &[1, 3, 4]));
+    // An object that is already listed stays as the only one of its currency.
+    assert_eq!(ledger.at(10, compact(1, 5, 1)), DONE);
+    assert_eq!(ledger.at(10, compact(1, 6, 1)), DONE);
+    assert_eq!(ledger.at(10, list(0)), listed(6, &[1, 4]));
+    assert_eq!(ledger.at(10, Kind::Collect), collected(&[2, 3]));
+}
+
+#[test]
+fn pending_objects_stay_and_fenced_ones_go() {
+    let mut ledger = started();
+    ledger.at(10, put(W, 1, 1, 5));
+    ledger.at(10, put(C, 1, 2, 5));
+    assert_eq!(ledger.at(10, Kind::Collect), collected(&[]));
+    ledger.at(10, fence(W, 3));
+    ledger.at(10, put(W, 1, 3, 5));
+    ledger.at(10, put(W, 2, 4, 5));
+    // A dead object that isn't collected yet may be named again.
+    assert_eq!(ledger.commit(10, 2, 4, &[1]), DONE);
+    assert_eq!(ledger.at(10, Kind::Collect), collected(&[3]));
+    ledger.commit(10, 2, 5, &[]);
+    assert_eq!(ledger.at(10, Kind::Collect), collected(&[1]));
+    assert_eq!(ledger.objects.keys().copied().collect::<Vec<_>>(), [2, 4]);
+}
+
+#[test]
+fn every_accepted_kind_removes_expired_holds_and_their_manifests() {
+    let mut start = started();
+    start.at(10, put(W, 1, 1, 5));
+    start.commit(10, 1, 3, &[1]);
+    start.at(10, hold(1, 3, 10));
+    start.at(10, hold(2, 3, 0));
+    start.commit(10, 1, 4, &[1]);
+    start.at(10, hold(3, 4, 10));
+    start.at(10, Kind::Release { hold: 2 });
+    for kind in [put(W, 1, 2, 5), list(0), look(5, 0), Kind::Collect] {
+        let mut ledger = start.clone();
+        assert_eq!(ledger.at(10, kind).code(), 0);
+        assert_eq!((ledger.manifests.len(), ledger.holds.len()), (2, 2));
+        assert_eq!(ledger.at(11, list(0)).code(), 0);
+        assert_eq!((ledger.manifests.len(), ledger.holds.len()), (1, 0));
+    }
+}
+
+#[test]
+fn the_last_numbers() {
+    let mut last = raw(&started());
+    last.manifests[0] = RawManifest { number: u64::MAX - 1, ..last.manifests[0].clone() };
+    let mut ledger = from_raw(&last).unwrap();
+    assert_eq!(ledger.at(10, put(W, 1, u64::MAX, 0)), DONE);
+    assert_eq!(ledger.at(10, put(W, 1, u64::MAX, 0)), refused(9));
+    assert_eq!(ledger.at(10, put(W, 1, u64::MAX - 1, 0)), refused(10));
+    assert_eq!(ledger.at(10, put(W, 2, 1, 0)), refused(4));
+    assert_eq!(ledger.commit(10, 1, u64::MAX, &[u64::MAX]), DONE);
+    for slot in [0, 1, u64::MAX - 1, u64::MAX] {
+        assert_eq!(ledger.at(10, fence(W, slot)), refused(6));
+        assert_eq!(ledger.commit(10, 1, slot, &[4]), refused(6));
+    }
+    assert_eq!(ledger.commit(10, 2, 0, &[]), refused(4));
+    assert_eq!(ledger.at(u64::MAX, hold(u64::MAX, u64::MAX, u64::MAX)), DONE);
+    assert_eq!(ledger.at(u64::MAX, list(u64::MAX)), listed(u64::MAX, &[u64::MAX]));
+}

@@ -1,0 +1,13 @@
+//! A second implementation of the ledger of document 01, written from the
+//! document alone, with which the proved library is compared.
+
+pub mod compare;
+pub mod generate;
+pub mod ledger;
+pub mod names;
+#[cfg(feature = "proved")]
+pub mod proved;
+pub mod random;
+pub mod raw;
+pub mod records;
+pub mod run;
