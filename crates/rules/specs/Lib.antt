@@ -1,0 +1,14 @@
+pub mod Lists
+pub mod Limits
+pub mod State
+pub mod Words
+pub mod Table
+pub mod Sound
+pub mod Request
+pub mod Step
+pub mod History
+pub mod Agreement
+pub mod Typed
+pub mod Verdict
+pub mod Demand3
+pub mod Depot
