@@ -1,0 +1,12 @@
+pub mod Places
+pub mod Pieces
+pub mod Fronts
+pub mod Tables
+pub mod Joined
+pub mod Listed
+pub mod WalkLaws
+pub mod RoundTripRecords
+pub mod RoundTripSteps
+pub mod RoundTripVerdicts
+pub mod Requests
+pub mod Replies

@@ -1,0 +1,109 @@
+-- A list in its places, the rest 0, and the step and the reply that have it there.
+-- Assumes nothing.
+use mathlib.Core.Path.{_≡_, refl, sym, ap, _∙_}
+use mathlib.Core.Bool.{Bool, true, false, cond, and-false, false≢true}
+use mathlib.Core.List.{List, _++_}
+use Prim.Native.Nat.{ℕ, zero, suc, _+_, _-_, _≤_, _<_}
+use native.Mathlib.Nat.{add-comm}
+use native.Mathlib.Omega.{arith}
+use lib.Dec.{leb, eqb}
+use lib.ListN.{length, take, drop, replicate, length-append, length-replicate, replicate-append-replicate}
+use lib.Seq.{take-at, drop-at, take-append-add, take-append-seam, drop-append-seam}
+use borrow.Author.Tests.{le-leb, lt-leb}
+use Rattle.fields.specs.Bytes.{wordsOf}
+use Rattle.fields.proofs.Bytes.{length-wordsOf}
+use Rattle.rules.specs.declared.Kind.{Kind}
+use Rattle.rules.specs.declared.Kind.the-variants.{Fence as FENCE, Put as PUT, Commit as COMMIT, Compact as COMPACT, Hold as HOLD, Renew as RENEW, Release as RELEASE, List as LIST, Look as LOOK, Collect as COLLECT}
+use Rattle.rules.specs.declared.NameList.{NameList}
+use Rattle.rules.specs.declared.Step.{Step}
+use Rattle.rules.specs.declared.ObjectList.{ObjectList}
+use Rattle.rules.specs.Lists.{all, conj, risingAbove}
+use Rattle.rules.specs.Limits.{limits}
+use Rattle.rules.specs.Table.{wellFormed}
+use Rattle.rules.specs.Request.{Asked, Unreadable}
+use Rattle.rules.specs.Typed.{padded, isPadded, nameList, namesOf, objectList, requestOf, canSay}
+use Rattle.rules.proofs.Lists.{and-both}
+use Rattle.rules.proofs.Typed.{padded-room}
+use Rattle.records.proofs.Places.{some-list}
+
+-- ---- zeros
+
+take-zeros : (m k : ℕ) → take {A = ℕ} m (replicate (k + m) 0) ≡ replicate m 0
+take-zeros m k = rw (add-comm k m, ← replicate-append-replicate {A = ℕ} m k 0) (take-at (replicate m 0) (replicate k 0) m (length-replicate m 0))
+
+drop-zeros : (k m : ℕ) → drop {A = ℕ} k (replicate (k + m) 0) ≡ replicate m 0
+drop-zeros k m = rw (← replicate-append-replicate {A = ℕ} k m 0) (drop-at (replicate k 0) (replicate m 0) k (length-replicate k 0))
+
+all-zeros : (m : ℕ) → all (eqb 0) (replicate m 0) ≡ true
+unfolding all
+all-zeros zero = refl
+all-zeros (suc m) = all-zeros m
+
+-- ---- a list in n places
+
+padded-sum : (l : List ℕ) (m : ℕ) → padded (length l + m) l ≡ l ++ replicate m 0
+padded-sum l m = take-append-add l (replicate (length l + m) 0) m ∙ ap (λ (z : List ℕ). l ++ z) (take-zeros m (length l))
+
+module _ (n : ℕ) (l : List ℕ) (short : length l ≤ n) where
+  sum : n ≡ length l + (n - length l)
+  sum = omega arith
+
+  padded-is : padded n l ≡ l ++ replicate (n - length l) 0
+  padded-is = ap (λ (k : ℕ). padded k l) sum ∙ padded-sum l (n - length l)
+
+  -- as a list laid over zeros stands there
+  pub padded-over : l ++ drop (length l) (replicate n 0) ≡ padded n l
+  padded-over =
+      ap (λ (k : ℕ). l ++ drop (length l) (replicate k 0)) sum ∙ ap (λ (z : List ℕ). l ++ z) (drop-zeros (length l) (n - length l)) ∙ sym padded-is
+
+  pub padded-take : take (length l) (padded n l) ≡ l
+  padded-take = rw padded-is (take-append-seam l (replicate (n - length l) 0))
+
+  pub padded-said : isPadded (length l) (padded n l) ≡ true
+  unfolding isPadded
+  padded-said =
+      rw padded-is
+      (and-both (leb (length l) (length (l ++ replicate (n - length l) 0))) (all (eqb 0) (drop (length l) (l ++ replicate (n - length l) 0)))
+      (le-leb (length l) (length (l ++ replicate (n - length l) 0)) (omega (arith, length-append l (replicate (n - length l) 0))))
+      (rw drop-append-seam (all-zeros (n - length l))))
+
+-- words read over zeros
+module _ (count : ℕ) (w s : List ℕ) (e : w ≡ wordsOf count s) where
+  words-over : (n : ℕ) → count ≤ n → w ++ drop count (replicate n 0) ≡ padded n (wordsOf count s)
+  words-over n h =
+      let long = length-wordsOf count s in
+      rw e (ap (λ (k : ℕ). wordsOf count s ++ drop k (replicate n 0)) (sym long) ∙ padded-over n (wordsOf count s) (omega arith))
+
+  pub names-read : count ≤ limits .names → _≡_ {A = NameList} (record { count = count; names = w ++ drop count (replicate (limits .names) 0) }) (nameList (wordsOf count s))
+  names-read h = λ i. record { count = sym (length-wordsOf count s) i; names = words-over (limits .names) h i }
+
+  pub objects-read : count ≤ limits .places → _≡_ {A = ObjectList} (record { count = count; objects = w ++ drop count (replicate (limits .places) 0) }) (objectList (wordsOf count s))
+  objects-read h = λ i. record { count = sym (length-wordsOf count s) i; objects = words-over (limits .places) h i }
+
+-- ---- a step with its list
+
+-- a typed step whose list stands in its places says what it asks
+pub step-said : (t : ℕ) (k : Kind) (l : List ℕ) → length l ≤ limits .names → canSay (requestOf (record { time = t; kind = k; list = nameList l })) ≡ wellFormed limits t k l
+step-said t k l h = rw (padded-said (limits .names) l h, padded-take (limits .names) l h)
+
+-- more names than a step has
+pub step-long : (t : ℕ) (k : Kind) (l : List ℕ) → limits .names < length l → wellFormed limits t k l ≡ false
+unfolding wellFormed conj
+step-long t (FENCE r n) l h = some-list l (omega arith)
+step-long t (PUT r e n c) l h = rw (some-list l (omega arith))
+step-long t (COMMIT e n) l h = rw (lt-leb (length l) (limits .names) h, and-false (risingAbove 0 l))
+step-long t (COMPACT e n o) l h = rw (some-list l (omega arith))
+step-long t (HOLD x m e) l h = rw (some-list l (omega arith))
+step-long t (RENEW x e) l h = rw (some-list l (omega arith))
+step-long t (RELEASE x) l h = rw (some-list l (omega arith))
+step-long t (LIST x) l h = some-list l (omega arith)
+step-long t (LOOK c x) l h = rw (some-list l (omega arith))
+step-long t COLLECT l h = some-list l (omega arith)
+
+-- a step that a record can say has no more names than places
+pub said-room : (p : Step) → canSay (requestOf p) ≡ true → p .list .count ≤ length (p .list .names)
+said-room p = by (isPadded (p .list .count) (p .list .names)) refl
+  where
+    by : (b : Bool) → isPadded (p .list .count) (p .list .names) ≡ b → canSay (cond b (Asked (p .time) (p .kind) (namesOf (p .list))) Unreadable) ≡ true → p .list .count ≤ length (p .list .names)
+    by true e h = padded-room (p .list .count) (p .list .names) e
+    by false e h = absurd (false≢true h)

@@ -1,0 +1,46 @@
+-- Reading and writing undo each other, and all else is refused (the customer's second demand, for records). Numbers fit their fields and bytes are below
+-- 256, as the types have it. Assumes nothing.
+use mathlib.Core.Path.{_≡_}
+use mathlib.Core.Bool.{Bool, true, _&&_}
+use mathlib.Core.List.{List, [], _∷_}
+use Prim.Native.Nat.{ℕ, _^_, _≤_, _*_}
+use lib.Dec.{ltb}
+use lib.ListN.{length}
+use Rattle.rules.specs.declared.Kind.{Kind}
+use Rattle.rules.specs.declared.Answer.{Answer}
+use Rattle.rules.specs.Lists.{all}
+use Rattle.rules.specs.Limits.{limits}
+use Rattle.rules.specs.Table.{wellFormed}
+use Rattle.rules.specs.Request.{Asked, Unreadable}
+use Rattle.records.specs.declared.Field.{Field}
+use Rattle.records.specs.Steps.{fieldsOf, encodeStep, decodeStep}
+use Rattle.records.specs.Verdicts.{verdictFields, verdictFormed, encodeVerdict, decodeVerdict, IsVerdict, NoVerdict}
+
+-- a field's number fits its width, and a list's numbers fit 64 bits
+abbrev pub fits : Field → Bool
+fits f = ltb (f .number) (256 ^ f .width)
+
+abbrev pub allFit : List Field → List ℕ → Bool
+allFit fs l = all fits fs && all (λ n. ltb n (2 ^ 64)) l
+
+abbrev pub areBytes : List ℕ → Bool
+areBytes bs = all (λ b. ltb b 256) bs
+
+pub record StepRoundTrip : Type 0 where
+  -- reading what was written gives the step
+  pub readsWritten : (t : ℕ) (k : Kind) (l : List ℕ) → wellFormed limits t k l ≡ true → allFit (fieldsOf t k) l ≡ true → decodeStep (encodeStep t k l) ≡ Asked t k l
+  -- what was read is well formed, and writing it gives the bytes
+  pub writesRead : (bs : List ℕ) (t : ℕ) (k : Kind) (l : List ℕ) → areBytes bs ≡ true → decodeStep bs ≡ Asked t k l
+      → (wellFormed limits t k l ≡ true) × (allFit (fieldsOf t k) l ≡ true) × (encodeStep t k l ≡ bs)
+  -- bytes that no step is written as are refused
+  pub refuses : (bs : List ℕ) → areBytes bs ≡ true → ((t : ℕ) (k : Kind) (l : List ℕ) → wellFormed limits t k l ≡ true → allFit (fieldsOf t k) l ≡ true → encodeStep t k l ≡ bs → ⊥)
+      → decodeStep bs ≡ Unreadable
+
+pub record VerdictRoundTrip : Type 0 where
+  pub readsWritten : (a : Answer) (l : List ℕ) → verdictFormed a l ≡ true → allFit (verdictFields a) l ≡ true → decodeVerdict (encodeVerdict a l) ≡ IsVerdict a l
+  pub writesRead : (bs : List ℕ) (a : Answer) (l : List ℕ) → areBytes bs ≡ true → decodeVerdict bs ≡ IsVerdict a l
+      → (verdictFormed a l ≡ true) × (allFit (verdictFields a) l ≡ true) × (encodeVerdict a l ≡ bs)
+  pub refuses : (bs : List ℕ) → areBytes bs ≡ true → ((a : Answer) (l : List ℕ) → verdictFormed a l ≡ true → allFit (verdictFields a) l ≡ true → encodeVerdict a l ≡ bs → ⊥)
+      → decodeVerdict bs ≡ NoVerdict
+  -- "The longest verdict is 522 bytes (64 collected)."
+  pub longest : (a : Answer) (l : List ℕ) → verdictFormed a l ≡ true → length (encodeVerdict a l) ≤ 522

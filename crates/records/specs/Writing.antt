@@ -1,0 +1,39 @@
+-- What a writer answers and leaves of the buffer (document 01): "Writers answer 2 for what no reader takes, otherwise "full" where room is short, and
+-- write nothing either way; bytes beyond stay."
+-- Assumes nothing.
+use mathlib.Core.Bool.{Bool, cond}
+use mathlib.Core.List.{List}
+use Prim.Native.Nat.{ℕ}
+use lib.Dec.{ltb}
+use lib.ListN.{length}
+use Rattle.fields.specs.Fields.{over}
+use Rattle.rules.specs.declared.Step.{Step}
+use Rattle.rules.specs.declared.Verdict.{Verdict}
+use Rattle.rules.specs.Typed.{requestOf, canSay, namesOf, objectsOf}
+use Rattle.records.specs.declared.Write.{Write}
+use Rattle.records.specs.declared.Write.the-variants.{Written, Malformed, Full}
+use Rattle.records.specs.Steps.{encodeStep}
+use Rattle.records.specs.Verdicts.{encodeVerdict, canAnswer}
+
+pub record Writing : Type 0 where
+  pub answer : Write
+  pub buffer : List ℕ
+
+-- of a record that a reader takes or not, with its bytes
+abbrev pub writing : Bool → List ℕ → List ℕ → Writing
+writing taken bytes buffer =
+    cond taken
+    (cond (ltb (length buffer) (length bytes)) (record { answer = Full; buffer = buffer }) (record { answer = Written (length bytes); buffer = over bytes buffer }))
+    (record { answer = Malformed; buffer = buffer })
+
+abbrev pub stepWriting : Step → List ℕ → Writing
+stepWriting p buffer = writing (canSay (requestOf p)) (encodeStep (p .time) (p .kind) (namesOf (p .list))) buffer
+
+abbrev pub verdictWriting : Verdict → List ℕ → Writing
+verdictWriting v buffer = writing (canAnswer v) (encodeVerdict (v .answer) (objectsOf (v .list))) buffer
+
+-- the paper's number for each answer of a writer: 2 for what no reader takes; written is 0 and full has none
+abbrev pub writeCode : Write → ℕ
+writeCode (Written n) = 0
+writeCode Malformed = 2
+writeCode Full = 3
