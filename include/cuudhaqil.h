@@ -25,6 +25,45 @@ uint64_t cuudhaqil_read_name(const uint8_t *name, size_t name_len, uint64_t *num
  * 0: out is too short; out stays. */
 uint64_t cuudhaqil_write_name(uint64_t kind, uint64_t number, uint8_t *out, size_t out_len);
 
+/* Records: step and verdict records, and where the next record of a trace ends. */
+
+/* Looks at the front of a trace.
+ * 0: nothing is left. 1: the record is torn (fewer than 3 bytes, or fewer than it claims). Else its length. */
+uint64_t cuudhaqil_next_record(const uint8_t *trace, size_t trace_len);
+
+/* A step is eleven numbers with sixteen places for COMMIT's list beside them:
+ * numbers[0] kind: 0 FENCE, 1 PUT, 2 COMMIT, 3 COMPACT, 4 HOLD, 5 RENEW, 6 RELEASE, 7 LIST, 8 LOOK, 9 COLLECT;
+ * [1] time, [2] role (0 writer, 1 compactor), [3] epoch, [4] slot, [5] object, [6] currency, [7] hold, [8] manifest,
+ * [9] expiry, [10] how long the list is. */
+
+/* Reads all the bytes as one step record.
+ * 0: read; the eleven numbers, 0 for what the kind does not have, and the list's sixteen places, 0 beyond its end.
+ * 2: no step record; both slices stay.
+ * 3: numbers has fewer than 11 elements or list fewer than 16; this goes first, and both stay.
+ * Elements beyond these stay. */
+uint64_t cuudhaqil_read_step(const uint8_t *record, size_t record_len, uint64_t *numbers, size_t numbers_len,
+                             uint64_t *list, size_t list_len);
+
+/* Writes a step's record at the start of out. Numbers that the kind does not have play no part, nor do elements beyond.
+ * 3: numbers has fewer than 11 elements or list fewer than 16; this goes first, and out stays.
+ * 2: no reader takes such a step; out stays.
+ * 0: out is too short; out stays.
+ * Else as many bytes were written, and those beyond them stay. */
+uint64_t cuudhaqil_write_step(const uint64_t *numbers, size_t numbers_len, const uint64_t *list, size_t list_len,
+                              uint8_t *out, size_t out_len);
+
+/* A verdict is three numbers with 64 places for its list beside them:
+ * numbers[0] case: 0 refused with the row, 1 accepted with the code alone, 2 FENCE with the epoch, 3 LIST with the
+ * manifest, 4 LOOK with the object, 5 COLLECT; [1] that value, else 0; [2] how long the list is. */
+
+/* Reads all the bytes as one verdict record; answers as cuudhaqil_read_step does, with 3 and 64 elements. */
+uint64_t cuudhaqil_read_verdict(const uint8_t *record, size_t record_len, uint64_t *numbers, size_t numbers_len,
+                                uint64_t *list, size_t list_len);
+
+/* Writes a verdict's record; answers as cuudhaqil_write_step does, with 3 and 64 elements. 522 bytes hold any. */
+uint64_t cuudhaqil_write_verdict(const uint64_t *numbers, size_t numbers_len, const uint64_t *list, size_t list_len,
+                                 uint8_t *out, size_t out_len);
+
 #ifdef __cplusplus
 }
 #endif
