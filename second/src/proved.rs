@@ -4,6 +4,39 @@
 extern "C" {
     fn cuudhaqil_read_name(name: *const u8, n: usize, number: *mut u64, numbers: usize) -> u64;
     fn cuudhaqil_write_name(kind: u64, value: u64, out: *mut u8, room: usize) -> u64;
+    fn cuudhaqil_next_record(trace: *const u8, n: usize) -> u64;
+    fn cuudhaqil_read_step(
+        record: *const u8,
+        n: usize,
+        numbers: *mut u64,
+        count: usize,
+        list: *mut u64,
+        places: usize,
+    ) -> u64;
+    fn cuudhaqil_write_step(
+        numbers: *const u64,
+        count: usize,
+        list: *const u64,
+        places: usize,
+        out: *mut u8,
+        room: usize,
+    ) -> u64;
+    fn cuudhaqil_read_verdict(
+        record: *const u8,
+        n: usize,
+        numbers: *mut u64,
+        count: usize,
+        list: *mut u64,
+        places: usize,
+    ) -> u64;
+    fn cuudhaqil_write_verdict(
+        numbers: *const u64,
+        count: usize,
+        list: *const u64,
+        places: usize,
+        out: *mut u8,
+        room: usize,
+    ) -> u64;
 }
 
 pub fn read_name(name: &[u8], number: &mut [u64]) -> u64 {
@@ -15,4 +48,37 @@ pub fn read_name(name: &[u8], number: &mut [u64]) -> u64 {
 pub fn write_name(kind: u64, value: u64, out: &mut [u8]) -> u64 {
     // SAFETY: the pointer comes from a slice of the length given.
     unsafe { cuudhaqil_write_name(kind, value, out.as_mut_ptr(), out.len()) }
+}
+
+pub fn next_record(trace: &[u8]) -> u64 {
+    // SAFETY: the pointer comes from a slice of the length given.
+    unsafe { cuudhaqil_next_record(trace.as_ptr(), trace.len()) }
+}
+
+pub fn read_step(record: &[u8], numbers: &mut [u64], list: &mut [u64]) -> u64 {
+    let (count, places) = (numbers.len(), list.len());
+    let (numbers, list) = (numbers.as_mut_ptr(), list.as_mut_ptr());
+    // SAFETY: the pointers come from slices of the lengths given.
+    unsafe { cuudhaqil_read_step(record.as_ptr(), record.len(), numbers, count, list, places) }
+}
+
+pub fn write_step(numbers: &[u64], list: &[u64], out: &mut [u8]) -> u64 {
+    let (count, places, room) = (numbers.len(), list.len(), out.len());
+    let (numbers, list, out) = (numbers.as_ptr(), list.as_ptr(), out.as_mut_ptr());
+    // SAFETY: the pointers come from slices of the lengths given.
+    unsafe { cuudhaqil_write_step(numbers, count, list, places, out, room) }
+}
+
+pub fn read_verdict(record: &[u8], numbers: &mut [u64], list: &mut [u64]) -> u64 {
+    let (count, places) = (numbers.len(), list.len());
+    let (numbers, list) = (numbers.as_mut_ptr(), list.as_mut_ptr());
+    // SAFETY: the pointers come from slices of the lengths given.
+    unsafe { cuudhaqil_read_verdict(record.as_ptr(), record.len(), numbers, count, list, places) }
+}
+
+pub fn write_verdict(numbers: &[u64], list: &[u64], out: &mut [u8]) -> u64 {
+    let (count, places, room) = (numbers.len(), list.len(), out.len());
+    let (numbers, list, out) = (numbers.as_ptr(), list.as_ptr(), out.as_mut_ptr());
+    // SAFETY: the pointers come from slices of the lengths given.
+    unsafe { cuudhaqil_write_verdict(numbers, count, list, places, out, room) }
 }

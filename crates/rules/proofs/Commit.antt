@@ -60,8 +60,16 @@ module _ (L : Limits) (s : State) (t e slot : ℕ) (l : List ℕ) (room : ℕ) w
   accepted m =
       let n = m .known in
       let z = m .nextSlot in
-      let none = of-clear (rowsOf L (sound L) s (asked .request)) (ap not (m .isSound), (ap not (m .formed), (le-ltb _ _ (m .onTime),
-      (ap₂ _||_ (ne-eqb e 0 (λ q. omega arith)) (le-ltb _ _ (m .known .1)), (le-ltb _ _ (m .unfenced), (lt-leb slot (s .current .number) (omega arith), (le-ltb (suc (s .current .number)) slot (omega arith), (none-unstored (m .allStored), tt)))))))) in
+      let none = of-clear (rowsOf L (sound L) s (asked .request)) (
+        ap not (m .isSound),
+        (
+          ap not (m .formed),
+          (
+            le-ltb _ _ (m .onTime),
+            (ap₂ _||_ (ne-eqb e 0 (λ q. omega arith)) (le-ltb _ _ (m .known .1)), (le-ltb _ _ (m .unfenced), (lt-leb slot (s .current .number) (omega arith), (le-ltb (suc (s .current .number)) slot (omega arith), (none-unstored (m .allStored), tt))))),
+          ),
+        ),
+      ) in
       and-both (eqb (verdict L (sound L) s (asked .request)) 0) _ (eq-eqb _ 0 none)
       (ap (λ b. leb (size (cond b (alone Done) (alone (Refused (verdict L (sound L) s (asked .request)))))) room) (eq-eqb (verdict L (sound L) s (asked .request)) 0 none) ∙ le-leb _ _ (m .fits))
 

@@ -133,10 +133,11 @@ module _ (L : Limits) (test : State → Bool) where
     collect-exact t l room e =
         let a : Ask = record { request = Asked t COLLECT l; room = room } in
         let q = settle-keeps t s h (row3-clear L s t COLLECT l (cleared L test s a e .1)) r in
-        let g = granted-reply L test s a e in
-        (ap (λ (y : Reply). y .answer) g,
-        ap (λ (y : Reply). risingAbove 0 (y .list)) g ∙ collected-rising _ _ q t (omega arith),
-        λ n. ap (λ (y : Reply). has n (y .list)) g ∙ collected-exact _ _ q t (omega arith) n ∙ dead-time t h n)
+        let g = granted-reply L test s a e in (
+          ap (λ (y : Reply). y .answer) g,
+          ap (λ (y : Reply). risingAbove 0 (y .list)) g ∙ collected-rising _ _ q t (omega arith),
+          λ n. ap (λ (y : Reply). has n (y .list)) g ∙ collected-exact _ _ q t (omega arith) n ∙ dead-time t h n,
+        )
 
     listed-stored : (t : ℕ) → s .clock ≤ t → (n : ℕ) → listedAt t h n ≡ true → (storedAt h n ≡ true) × (stored s n ≡ true)
     listed-stored t le n e =
