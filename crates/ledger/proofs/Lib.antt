@@ -1,0 +1,13 @@
+pub mod View
+pub mod SoundParts
+pub mod SoundLaw
+pub mod Names
+pub mod Changes
+pub mod Door
+pub mod Live
+pub mod ChangesX
+pub mod ChangesY
+pub mod Collecting
+pub mod Freeing
+pub mod Whole
+pub mod Demand3

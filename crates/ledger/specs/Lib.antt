@@ -1,0 +1,6 @@
+pub mod Ledger
+pub mod Parts
+pub mod Rows
+pub mod Step
+pub mod SoundLaw
+pub mod Demand3

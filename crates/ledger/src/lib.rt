@@ -1,0 +1,58 @@
+// The ledger: it goes in and the next ledger comes back; nothing is kept elsewhere (document 01, "What the ledger holds").
+mod change;
+mod collect;
+mod rows;
+mod sound;
+mod steps;
+
+ghost use mathlib.Core.Path.{_≡_};
+ghost use Rattle.rules.specs.State.{fresh};
+ghost use Rattle.ledger.specs.Ledger.{lay};
+use holds::Holds;
+use manifests::Manifests;
+use objects::Objects;
+use rules::Verdict;
+
+pub struct Ledger {
+    pub clock: u64,
+    // the highest object number ever accepted
+    pub top: u64,
+    pub objects: Objects,
+    pub manifests: Manifests,
+    pub holds: Holds,
+}
+
+// A step's answer, with the next ledger inside it.
+pub struct StepAnswer {
+    pub verdict: Verdict,
+    pub ledger: Ledger,
+}
+
+impl Ledger {
+    // Objects stored, names in a manifest, kept manifests, holds, and the largest currency.
+    pub const PLACES: usize = 64;
+
+    pub const NAMES: usize = 16;
+
+    pub const MANIFESTS: usize = 9;
+
+    pub const HOLDS: usize = 8;
+
+    pub const CURRENCY: u16 = 999;
+
+    // Clock 0, top name 0, no objects or holds, and manifest 0 with both epochs 0 and an empty list.
+    pub fn fresh() -> Self
+        ensures { λ r. ⌜ r ≡ lay fresh ⌝ }
+    {
+        let objects = Objects::none();
+        let manifests = Manifests::first();
+        let holds = Holds::none();
+        Ledger {
+            clock: 0,
+            top: 0,
+            objects,
+            manifests,
+            holds,
+        }
+    }
+}

@@ -1,0 +1,35 @@
+-- `Objects::is_full` meets its contract: count of ones tells a full store.
+-- Assumes nothing.
+use mathlib.Core.Path.{_≡_, ap, _∙_}
+use Prim.Native.Nat.{ℕ, _≤_}
+use native.Mathlib.Omega.{arith}
+use borrow.Author.Needs.{needs}
+use borrow.Author.Tests.{eq-eqb, eqb-true, le-leb, leb-true}
+use lib.Dec.{eqb, leb}
+use lib.ListN.{length}
+use Rattle.rules.specs.Lists.{keep}
+use Rattle.rules.specs.State.{occupied}
+use Rattle.rules.proofs.Lists.{bool-ext}
+use Rattle.rules.proofs.Numbers.{keep-length}
+use Rattle.objects.specs.Occupancy.{used}
+use Rattle.objects.proofs.Places.{items-long, laid-flags, used-length}
+use Rattle.objects.proofs.Objects.is_full.Statement.{statement}
+use Rattle.objects.proofs.Objects.is_full.Tie as tie
+
+count-taken-requires : tie.Need-count-taken-requires
+count-taken-requires c κs = search needs
+
+-- at most 64: all are taken exactly when 64 are
+full : (n : ℕ) → n ≤ 64 → eqb n 64 ≡ leb 64 n
+full n h = bool-ext _ _ (λ e. le-leb 64 n (omega (arith, eqb-true n 64 e))) (λ e. eq-eqb n 64 (omega (arith, leb-true 64 n e)))
+
+returns : tie.Need-returns
+returns c =
+    let s = c .before .args .self in
+    let long = items-long s _ (c .before .good .0) in
+    let many : c .count-taken .result ≡ length (keep occupied (s .items)) =
+    c .count-taken .ensures ∙ ap used (laid-flags s (c .before .pre) long) ∙ used-length (s .items) in
+    ap (λ (n : ℕ). eqb n 64) many ∙ full (length (keep occupied (s .items))) (omega (arith, keep-length occupied (s .items)))
+
+pub is-full-spec : {M : Type 1} → statement M
+is-full-spec = tie.close (tie.spec count-taken-requires returns)

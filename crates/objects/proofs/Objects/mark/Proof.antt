@@ -1,0 +1,88 @@
+-- `Objects::mark` meets its contract: the places passed are filled with the objects, marked or as they were.
+-- Assumes nothing.
+use mathlib.Core.Path.{_≡_, sym, ap, _∙_, subst}
+use mathlib.Core.List.{List, map}
+use Prim.Native.Nat.{ℕ, _-_, _≤_}
+use native.Mathlib.Omega.{arith}
+use borrow.Author.Needs.{needs}
+use lib.ListN.{length, length-map}
+use lib.Seq.{take-all}
+use Rattle.rules.specs.declared.Object.{Object}
+use Rattle.rules.specs.State.{free}
+use Rattle.rules.specs.Step.{mark}
+use Rattle.arrays.specs.Arrays.{pad}
+use Rattle.arrays.proofs.Lists.{Filled, filled-none, filled-next, pad-full}
+use Rattle.objects.specs.declared.Objects.{Objects}
+use Rattle.objects.specs.Occupancy.{word}
+use Rattle.objects.proofs.Places.{items-long, laid-word, marked-places}
+use Rattle.objects.proofs.Objects.mark.Statement.{statement}
+use Rattle.objects.proofs.Objects.mark.Tie as tie
+
+abbrev Inv-loop : tie.InvT-loop
+Inv-loop list self items₀ i₀ items i = (i ≤ 64) × (length (self .items) ≡ 64) × Filled 64 free (mark list) (self .items) i items
+
+abbrev μ-loop : tie.MeasureT-loop
+μ-loop list self items₀ i₀ items i = 64 - i
+
+none-requires : tie.Need-none-requires Inv-loop μ-loop
+none-requires c κs = search needs
+
+loop-holds : tie.Need-loop-holds Inv-loop μ-loop
+loop-holds c =
+    let s = c .before .before .before .args in
+    (omega arith, items-long (s .t1) _ (c .before .before .before .good .0), rw (ap (λ (o : Objects). o .items) (c .before .none .ensures)) (filled-none 64 free (mark (s .list .now)) (s .t1 .items)))
+
+mul-o : tie.Need-mul-o Inv-loop μ-loop
+mul-o c = omega arith
+
+element-copy-out-o : tie.Need-element-copy-out-o Inv-loop μ-loop
+element-copy-out-o c = omega arith
+
+marked-requires : tie.Need-marked-requires Inv-loop μ-loop
+marked-requires c κs = search needs
+
+mul-items : tie.Need-mul-items Inv-loop μ-loop
+mul-items c = omega arith
+
+array-set-from-items : tie.Need-array-set-from-items Inv-loop μ-loop
+array-set-from-items c = omega arith
+
+add-i : tie.Need-add-i Inv-loop μ-loop
+add-i c = omega arith
+
+loop-less : tie.Need-loop-less Inv-loop μ-loop
+loop-less c = omega arith
+
+loop-again : tie.Need-loop-again Inv-loop μ-loop
+loop-again c =
+    let h = c .before .before .before .loop .inv in
+    (omega arith, h .1, rw (c .marked .ensures) (filled-next _ _ _ _ (h .2) free (omega arith) (omega arith)))
+
+returns : tie.Need-returns Inv-loop μ-loop
+returns c =
+    let h = c .before .loop .inv in
+    let s = c .before .before .before .before .before .args in
+    let f = mark (s .list .now) in
+    let all : c .before .loop .i ≡ 64 = omega arith in
+    let done = subst (λ (k : ℕ). Filled 64 free f (s .t1 .items) k (c .before .loop .items)) all (h .2) in
+    let same : c .before .loop .items ≡ map f (s .t1 .items) =
+    done ∙ ap (λ (l : List Object). pad 64 free (map f l)) (take-all 64 (s .t1 .items) (omega arith)) ∙ pad-full 64 free (map f (s .t1 .items)) (length-map (s .t1 .items) f ∙ h .1) in
+    λ j. record { occupancy = (laid-word (s .t1) (c .before .before .before .before .before .pre) ∙ ap word (sym (marked-places (s .list .now) (s .t1 .items)))) j; items = same j }
+
+pub mark-spec : {M : Type 1} → statement M
+mark-spec =
+    tie.close
+    (tie.spec
+    Inv-loop
+    μ-loop
+    none-requires
+    loop-holds
+    mul-o
+    element-copy-out-o
+    marked-requires
+    mul-items
+    array-set-from-items
+    add-i
+    loop-less
+    loop-again
+    returns)

@@ -1,0 +1,2 @@
+pub mod Occupancy
+pub mod Objects
