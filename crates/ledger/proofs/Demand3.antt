@@ -1,6 +1,6 @@
 -- Every step on the layout of a sound state answers and leaves what the rules do; so demand 3 holds of every sequence of steps on the ledger.
 -- Assumes nothing.
-use mathlib.Core.Path.{_≡_, refl, sym, ap, subst, _∙_}
+use mathlib.Core.Path.{_≡_, refl, ap, _∙_}
 use mathlib.Core.Bool.{Bool, true, false, cond, _&&_}
 use mathlib.Core.List.{List, [], _∷_, map}
 use Prim.Native.Nat.{ℕ}
@@ -11,15 +11,15 @@ use Rattle.rules.specs.Limits.{limits}
 use Rattle.rules.specs.State.{State, fresh}
 use Rattle.rules.specs.Sound.{sound}
 use Rattle.rules.specs.Request.{Request}
-use Rattle.rules.specs.Step.{Reply, alone, size, effect, granted, verdict, reply, accepts, next}
+use Rattle.rules.specs.Step.{alone, size, effect, granted, verdict, reply, accepts, next}
 use Rattle.rules.specs.Typed.{requestOf, verdictOf}
 use Rattle.rules.specs.Demand3.{ledgerFrom, ledgerOf}
 use Rattle.rules.proofs.Soundness.{sound-fresh, next-sound}
 use Rattle.rules.proofs.Whole.{whole}
 use Rattle.ledger.specs.declared.Ledger.{Ledger}
 use Rattle.ledger.specs.declared.StepAnswer.{StepAnswer}
-use Rattle.ledger.specs.Ledger.{lay, view, isSound}
-use Rattle.ledger.specs.Step.{refusedWith, answeredWith, ruledBy, ruled, stepOf}
+use Rattle.ledger.specs.Ledger.{lay, isSound}
+use Rattle.ledger.specs.Step.{refusedWith, answeredWith, ruled, stepOf}
 use Rattle.ledger.specs.Demand3.{TypedAsk, askOf, keptAfter, ledgerAfter, Delivered}
 use Rattle.ledger.proofs.SoundLaw.{view-lay, lay-sound}
 

@@ -1,17 +1,15 @@
 -- Behind the door rows 1 to 3 do not apply: the verdict is the first of the other rows, and what a step comes to follows from it.
 -- Assumes nothing.
-use mathlib.Core.Path.{_≡_, refl, sym, ap, _∙_}
-use mathlib.Core.Bool.{true, cond}
-use mathlib.Core.List.{List, [], _∷_}
+use mathlib.Core.Path.{_≡_, refl, ap, _∙_}
+use mathlib.Core.List.{List, _∷_}
 use Prim.Native.Nat.{ℕ}
 use borrow.Author.Tests.{eq-eqb, ne-eqb, le-ltb}
-use lib.Dec.{eqb}
 use lib.ListN.{drop}
 use Rattle.rules.specs.declared.Kind.{Kind}
 use Rattle.rules.specs.declared.Kind.the-variants.{Fence as FENCE, Put as PUT, Commit as COMMIT, Compact as COMPACT, Hold as HOLD, Renew as RENEW, Release as RELEASE, List as LIST, Look as LOOK, Collect as COLLECT}
 use Rattle.rules.specs.Limits.{Limits, limits}
 use Rattle.rules.specs.State.{State}
-use Rattle.rules.specs.Table.{Row, _if_, row2, row3, rows, firstOf}
+use Rattle.rules.specs.Table.{_if_, row2, row3, rows, firstOf}
 use Rattle.rules.specs.Sound.{sound}
 use Rattle.rules.specs.Request.{Asked}
 use Rattle.rules.specs.Step.{effect, granted, verdict}

@@ -5,8 +5,8 @@ pub mod Names
 pub mod Changes
 pub mod Door
 pub mod Live
-pub mod ChangesX
-pub mod ChangesY
+pub mod StoreSteps
+pub mod HoldSteps
 pub mod Collecting
 pub mod Freeing
 pub mod Whole

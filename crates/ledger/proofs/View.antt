@@ -1,26 +1,22 @@
 -- What a ledger's type, its layout and its soundness tell of its parts.
 -- Assumes nothing.
-use mathlib.Core.Path.{_≡_, refl, sym, ap, ap₂, _∙_, subst}
-use mathlib.Core.Bool.{Bool, true, _&&_}
-use mathlib.Core.List.{List, [], _∷_, _++_}
-use Prim.Native.Nat.{ℕ, suc, _≤_, _<_}
-use native.Mathlib.Omega.{arith}
+use mathlib.Core.Path.{_≡_, sym, ap, _∙_}
+use mathlib.Core.Bool.{true}
+use mathlib.Core.List.{List, [], _∷_}
 use lib.ListN.{length}
 use mir.Val.{Val}
 use denote.Laws.{Is}
-use Rattle.rules.specs.Lists.{conj}
-use Rattle.rules.specs.Limits.{limits, manifestLimit}
-use Rattle.rules.specs.State.{State, kept}
+use Rattle.rules.specs.Limits.{limits}
+use Rattle.rules.specs.State.{kept}
 use Rattle.rules.specs.Sound.{sound}
-use Rattle.rules.proofs.Lists.{and-left, and-right, and-both, conj-true, true-conj}
+use Rattle.rules.proofs.Lists.{and-left, and-right, conj-true}
 use Rattle.rules.proofs.Shape.{Shape, shape-of}
-use Rattle.rules.proofs.Bounds.{nine-enough}
 use Rattle.objects.specs.Objects.{isLaid as objectsLaid}
 use Rattle.objects.proofs.Places as places
 use Rattle.manifests.specs.Manifests.{manifestsOf, isLaid as manifestsLaid}
 use Rattle.manifests.proofs.Places as lists
 use Rattle.manifests.proofs.Places.{Long}
-use Rattle.holds.specs.Holds.{holdsOf, isLaid as holdsLaid}
+use Rattle.holds.specs.Holds.{isLaid as holdsLaid}
 use Rattle.holds.proofs.Places as holds
 use Rattle.ledger.specs.declared.Ledger.{Ledger}
 use Rattle.ledger.specs.Ledger.{lay, view, isLaidOut, isSound}

@@ -1,6 +1,6 @@
 -- Step records (document 01, "Records and names"): the table of the ten kinds, the bytes of a step, and the step of bytes.
 -- Assumes nothing.
-use mathlib.Core.Bool.{Bool, cond, _&&_}
+use mathlib.Core.Bool.{cond, _&&_}
 use mathlib.Core.List.{List, [], _∷_}
 use Prim.Native.Nat.{ℕ, _-_, _%_}
 use lib.Dec.{leb, eqb}
@@ -10,9 +10,7 @@ use Rattle.rules.specs.declared.Role.{Role}
 use Rattle.rules.specs.declared.Role.the-variants.{Writer, Compactor}
 use Rattle.rules.specs.declared.Kind.{Kind}
 use Rattle.rules.specs.declared.Kind.the-variants.{Fence as FENCE, Put as PUT, Commit as COMMIT, Compact as COMPACT, Hold as HOLD, Renew as RENEW, Release as RELEASE, List as LIST, Look as LOOK, Collect as COLLECT}
-use Rattle.rules.specs.declared.Step.{Step}
 use Rattle.rules.specs.Request.{Request, Asked, Unreadable}
-use Rattle.rules.specs.Limits.{limits}
 use Rattle.rules.specs.Typed.{canSay, nameList}
 use Rattle.records.specs.declared.Field.{Field}
 use Rattle.records.specs.declared.KindRead.{KindRead}

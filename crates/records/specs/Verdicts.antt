@@ -3,13 +3,13 @@
 use mathlib.Core.Bool.{Bool, true, false, cond, _&&_}
 use mathlib.Core.List.{List, [], _∷_}
 use Prim.Native.Nat.{ℕ, _+_, _-_, _%_}
-use lib.Dec.{leb, ltb, eqb}
+use lib.Dec.{leb, eqb}
 use lib.ListN.{length, drop, getD}
 use Rattle.fields.specs.Fields.{claimed}
 use Rattle.rules.specs.declared.Answer.{Answer}
 use Rattle.rules.specs.declared.Answer.the-variants.{Refused, Done, Epoch, Listed, Found, Collected}
 use Rattle.rules.specs.declared.Verdict.{Verdict}
-use Rattle.rules.specs.Lists.{conj, all, none, risingAbove}
+use Rattle.rules.specs.Lists.{conj, none, risingAbove}
 use Rattle.rules.specs.Limits.{limits}
 use Rattle.rules.specs.Table.{nonzero}
 use Rattle.rules.specs.Step.{alone}

@@ -1,6 +1,6 @@
 -- What a reader finds in the value of a record that should have these inner fields: a number for each and the list, or that it hasn't just these fields.
 -- Assumes nothing.
-use mathlib.Core.Bool.{cond, _&&_}
+use mathlib.Core.Bool.{cond}
 use mathlib.Core.List.{List, [], _∷_}
 use Prim.Native.Nat.{ℕ, _+_, _/_, _%_}
 use lib.Dec.{eqb}

@@ -15,7 +15,7 @@ use Rattle.ledger.specs.Step.{answeredWith}
 use Rattle.ledger.proofs.View.{sound-parts}
 use Rattle.ledger.proofs.Names.{list-long}
 use Rattle.ledger.proofs.Door.{turned-away, taken}
-use Rattle.ledger.proofs.ChangesX.{commit-clear, commit-comes}
+use Rattle.ledger.proofs.StoreSteps.{commit-clear, commit-comes}
 use Rattle.ledger.proofs.Ledger.commit.Statement.{statement}
 use Rattle.ledger.proofs.Ledger.commit.Tie as tie
 

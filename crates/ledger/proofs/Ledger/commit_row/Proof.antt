@@ -14,7 +14,7 @@ use Rattle.ledger.specs.Rows.{fenceRow, slotRow}
 use Rattle.ledger.proofs.View.{sound-parts}
 use Rattle.ledger.proofs.Names.{list-long}
 use Rattle.ledger.proofs.Live.{commit-rows}
-use Rattle.ledger.proofs.ChangesX.{fencedRows, fence-stop, slot-stop, slot-pass}
+use Rattle.ledger.proofs.StoreSteps.{fencedRows, fence-stop, slot-stop, slot-pass}
 use Rattle.ledger.proofs.Ledger.commit_row.Statement.{statement}
 use Rattle.ledger.proofs.Ledger.commit_row.Tie as tie
 

@@ -15,7 +15,7 @@ use Rattle.ledger.specs.Ledger.{view}
 use Rattle.ledger.specs.Step.{answeredWith}
 use Rattle.ledger.proofs.View.{sound-parts}
 use Rattle.ledger.proofs.Door.{turned-away, taken}
-use Rattle.ledger.proofs.ChangesX.{compact-clear, compact-comes, compacted-padded, compacted-said}
+use Rattle.ledger.proofs.StoreSteps.{compact-clear, compact-comes, compacted-padded, compacted-said}
 use Rattle.ledger.proofs.Ledger.compact.Statement.{statement}
 use Rattle.ledger.proofs.Ledger.compact.Tie as tie
 

@@ -20,7 +20,7 @@ use Rattle.ledger.specs.Ledger.{view}
 use Rattle.ledger.specs.Rows.{fenceRow, slotRow}
 use Rattle.ledger.proofs.View.{sized, sound-parts}
 use Rattle.ledger.proofs.Live.{compact-rows}
-use Rattle.ledger.proofs.ChangesX.{fencedRows, fence-stop, slot-stop, slot-pass, one-stored, highest-row, current-padded}
+use Rattle.ledger.proofs.StoreSteps.{fencedRows, fence-stop, slot-stop, slot-pass, one-stored, highest-row, current-padded}
 use Rattle.ledger.proofs.Ledger.compact_row.Statement.{statement}
 use Rattle.ledger.proofs.Ledger.compact_row.Tie as tie
 

@@ -16,7 +16,7 @@ use Rattle.ledger.specs.Ledger.{lay, view}
 use Rattle.ledger.specs.Step.{Publishable, answeredWith, ruled}
 use Rattle.ledger.proofs.View.{sized, sound-parts}
 use Rattle.ledger.proofs.Door.{turned-away, taken}
-use Rattle.ledger.proofs.ChangesX.{epochs-few, current-padded, fence-clear, fence-writer, fence-compactor}
+use Rattle.ledger.proofs.StoreSteps.{epochs-few, current-padded, fence-clear, fence-writer, fence-compactor}
 use Rattle.ledger.proofs.Ledger.fence.Statement.{statement}
 use Rattle.ledger.proofs.Ledger.fence.Tie as tie
 

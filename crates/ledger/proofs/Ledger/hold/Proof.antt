@@ -14,7 +14,7 @@ use Rattle.ledger.specs.Ledger.{view}
 use Rattle.ledger.proofs.View.{sound-parts}
 use Rattle.ledger.proofs.Door.{turned-away}
 use Rattle.ledger.proofs.Live.{live-laid, live-list, live-count}
-use Rattle.ledger.proofs.ChangesY.{changed-laid, done, live-rising, inserted-length, hold-room}
+use Rattle.ledger.proofs.HoldSteps.{changed-laid, done, live-rising, inserted-length, hold-room}
 use Rattle.ledger.proofs.Ledger.hold.Statement.{statement}
 use Rattle.ledger.proofs.Ledger.hold.Tie as tie
 

@@ -11,7 +11,7 @@ use Rattle.holds.proofs.Places as holds
 use Rattle.ledger.specs.Ledger.{view}
 use Rattle.ledger.proofs.View.{sound-parts}
 use Rattle.ledger.proofs.Live.{live-few, live-number, live-manifest, live-count}
-use Rattle.ledger.proofs.ChangesY.{active-current, active-held, not-active, hold-there, hold-inactive, hold-full, hold-free}
+use Rattle.ledger.proofs.HoldSteps.{active-current, active-held, not-active, hold-there, hold-inactive, hold-full, hold-free}
 use Rattle.ledger.proofs.Ledger.hold_row.Statement.{statement}
 use Rattle.ledger.proofs.Ledger.hold_row.Tie as tie
 

@@ -8,7 +8,7 @@ use Rattle.rules.specs.declared.Kind.the-variants.{List as LIST}
 use Rattle.ledger.specs.Ledger.{view}
 use Rattle.ledger.proofs.Door.{turned-away}
 use Rattle.ledger.proofs.Live.{live-rows}
-use Rattle.ledger.proofs.ChangesY.{read-few, read-room, listed}
+use Rattle.ledger.proofs.HoldSteps.{read-few, read-room, listed}
 use Rattle.ledger.proofs.Ledger.list.Statement.{statement}
 use Rattle.ledger.proofs.Ledger.list.Tie as tie
 

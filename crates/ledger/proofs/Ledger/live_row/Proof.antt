@@ -1,27 +1,13 @@
 -- `Ledger::live_row` meets its contract: row 15.
 -- Assumes nothing.
-use mathlib.Core.Path.{_≡_, refl, sym, ap, ap₂, _∙_}
-use mathlib.Core.Bool.{Bool, true, false, not, cond, _&&_, _||_}
-use mathlib.Core.List.{List, [], _∷_}
-use Prim.Native.Nat.{ℕ, suc, _≤_}
-use native.Mathlib.Omega.{arith}
-use borrow.Author.Needs.{needs}
-use borrow.Author.Tests.{eq-eqb, ne-eqb, lt-ltb, le-ltb, lt-leb, le-leb, not-true, not-false}
-use lib.Dec.{leb, eqb}
-use lib.ListN.{length, take}
-use Rattle.rules.specs.declared.Hold.{Hold}
-use Rattle.rules.specs.Limits.{limits}
-use Rattle.rules.specs.Lists.{any, keep}
-use Rattle.rules.specs.Table.{rows, firstOf}
-use Rattle.rules.specs.Words.{live, isLive, active, stored}
-use Rattle.holds.specs.declared.Holds.{Holds}
-use Rattle.holds.specs.Holds.{holdsOf, hasNumber, namesManifest, layHolds}
+use mathlib.Core.Path.{_≡_, sym, _∙_}
+use borrow.Author.Tests.{eq-eqb, ne-eqb}
+use Rattle.rules.specs.Table.{firstOf}
+use Rattle.rules.specs.Words.{live, isLive}
 use Rattle.holds.proofs.Places as holds
-use Rattle.ledger.specs.Ledger.{view, isSound}
-use Rattle.ledger.specs.Rows.{slotRow, epochRow, fenceRow, rowBehind}
-use Rattle.arrays.proofs.Scan.{here, past}
+use Rattle.ledger.specs.Ledger.{view}
 use Rattle.ledger.proofs.View.{sound-parts}
-use Rattle.ledger.proofs.Live.{live-few, live-list, live-laid, live-number, live-manifest, live-count, fence-rows, hold-rows, put-rows, commit-rows, compact-rows, live-rows, look-rows}
+use Rattle.ledger.proofs.Live.{live-few, live-number}
 use Rattle.ledger.proofs.Ledger.live_row.Statement.{statement}
 use Rattle.ledger.proofs.Ledger.live_row.Tie as tie
 

@@ -8,7 +8,7 @@ use lib.Seq.{length-take-le}
 use Rattle.rules.specs.declared.Kind.the-variants.{Look as LOOK}
 use Rattle.ledger.specs.Ledger.{view}
 use Rattle.ledger.proofs.Door.{turned-away}
-use Rattle.ledger.proofs.ChangesY.{read-room, look-away, look-none, look-found}
+use Rattle.ledger.proofs.HoldSteps.{read-room, look-away, look-none, look-found}
 use Rattle.ledger.proofs.Ledger.look.Statement.{statement}
 use Rattle.ledger.proofs.Ledger.look.Tie as tie
 

@@ -17,7 +17,7 @@ use Rattle.ledger.specs.declared.Ledger.{Ledger}
 use Rattle.ledger.specs.Ledger.{view}
 use Rattle.ledger.specs.Step.{answeredWith}
 use Rattle.ledger.proofs.Door.{turned-away, taken}
-use Rattle.ledger.proofs.ChangesX.{put-clear, put-comes}
+use Rattle.ledger.proofs.StoreSteps.{put-clear, put-comes}
 use Rattle.ledger.proofs.Ledger.put.Statement.{statement}
 use Rattle.ledger.proofs.Ledger.put.Tie as tie
 

@@ -15,7 +15,7 @@ use Rattle.ledger.specs.Ledger.{view}
 use Rattle.ledger.specs.Rows.{epochRow}
 use Rattle.ledger.proofs.View.{sound-parts}
 use Rattle.ledger.proofs.Live.{put-rows}
-use Rattle.ledger.proofs.ChangesX.{one-stop, one-pass, role-epoch}
+use Rattle.ledger.proofs.StoreSteps.{one-stop, one-pass, role-epoch}
 use Rattle.ledger.proofs.Ledger.put_row.Statement.{statement}
 use Rattle.ledger.proofs.Ledger.put_row.Tie as tie
 

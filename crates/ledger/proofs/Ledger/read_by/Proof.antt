@@ -6,7 +6,7 @@ use Rattle.manifests.specs.Manifests.{layManifest, manifestsOf, numbered}
 use Rattle.holds.proofs.Places as holds
 use Rattle.ledger.proofs.View.{sized, sound-parts}
 use Rattle.ledger.proofs.Live.{live-few}
-use Rattle.ledger.proofs.ChangesY.{read-current, read-held}
+use Rattle.ledger.proofs.HoldSteps.{read-current, read-held}
 use Rattle.ledger.proofs.Ledger.read_by.Statement.{statement}
 use Rattle.ledger.proofs.Ledger.read_by.Tie as tie
 

@@ -14,7 +14,7 @@ use Rattle.ledger.specs.Ledger.{view}
 use Rattle.ledger.proofs.View.{sound-parts}
 use Rattle.ledger.proofs.Door.{turned-away}
 use Rattle.ledger.proofs.Live.{live-few, live-short, live-rows}
-use Rattle.ledger.proofs.ChangesY.{changed-laid, done}
+use Rattle.ledger.proofs.HoldSteps.{changed-laid, done}
 use Rattle.ledger.proofs.Ledger.release.Statement.{statement}
 use Rattle.ledger.proofs.Ledger.release.Tie as tie
 

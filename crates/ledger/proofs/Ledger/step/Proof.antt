@@ -1,6 +1,6 @@
 -- `Ledger::step` meets its contract: rows 1 to 3, then the kind's own.
 -- Assumes nothing.
-use mathlib.Core.Path.{_≡_, sym, ap, subst, _∙_}
+use mathlib.Core.Path.{_≡_, sym, ap, _∙_}
 use Prim.Native.Nat.{ℕ}
 use Rattle.ledger.specs.Step.{refusedWith, doorOf}
 use Rattle.ledger.proofs.Whole.{door-refused, door-padded, door-admits, door-rules}

@@ -1,10 +1,7 @@
 -- `epoch_row` meets its contract: the row's two parts in their order.
 -- Assumes nothing.
-use mathlib.Core.Path.{_≡_, sym, ap, _∙_}
-use native.Mathlib.Omega.{arith}
-use borrow.Author.Tests.{eq-eqb, ne-eqb, lt-ltb, le-ltb, lt-leb, le-leb}
+use borrow.Author.Tests.{eq-eqb, ne-eqb, lt-ltb, le-ltb}
 use Rattle.rules.specs.Table.{firstOf}
-use mathlib.Core.Bool.{or-true}
 use Rattle.ledger.proofs.rows.epoch_row.Statement.{statement}
 use Rattle.ledger.proofs.rows.epoch_row.Tie as tie
 

@@ -1,8 +1,6 @@
 -- `fence_row` meets its contract: the rows in their order.
 -- Assumes nothing.
-use mathlib.Core.Path.{_≡_, sym, ap, _∙_}
-use native.Mathlib.Omega.{arith}
-use borrow.Author.Tests.{eq-eqb, ne-eqb, lt-ltb, le-ltb, lt-leb, le-leb}
+use borrow.Author.Tests.{eq-eqb, ne-eqb, lt-ltb, le-ltb}
 use Rattle.rules.specs.Table.{firstOf}
 use Rattle.ledger.proofs.rows.fence_row.Statement.{statement}
 use Rattle.ledger.proofs.rows.fence_row.Tie as tie

@@ -1,9 +1,8 @@
 -- `slot_row` meets its contract: the rows in their order.
 -- Assumes nothing.
-use mathlib.Core.Path.{_≡_, sym, ap, _∙_}
 use Prim.Native.Nat.{suc}
 use native.Mathlib.Omega.{arith}
-use borrow.Author.Tests.{eq-eqb, ne-eqb, lt-ltb, le-ltb, lt-leb, le-leb}
+use borrow.Author.Tests.{lt-ltb, le-ltb, lt-leb, le-leb}
 use Rattle.rules.specs.Table.{firstOf}
 use Rattle.ledger.proofs.rows.slot_row.Statement.{statement}
 use Rattle.ledger.proofs.rows.slot_row.Tie as tie

@@ -1,9 +1,6 @@
 -- `refused` meets its contract.
 -- Assumes nothing.
-use mathlib.Core.Path.{ap}
 use borrow.Author.Needs.{needs}
-use Rattle.rules.specs.declared.Verdict.{Verdict}
-use Rattle.ledger.specs.declared.StepAnswer.{StepAnswer}
 use Rattle.ledger.proofs.steps.refused.Statement.{statement}
 use Rattle.ledger.proofs.steps.refused.Tie as tie
 

@@ -65,9 +65,12 @@ loop-again c =
     let a = c .before .before .before .before in
     let s = a .before .args in
     let h = a .loop .inv in
-    let o = getD (s .t1 .items) (a .loop .i) free in
-    (omega arith, h .1, scan-next (s .t1 .items) 64 asked (h .2) free (omega arith) (omega arith) asked
-    (distinct-hit o _ (sym (behind (s .t1 .items) (a .loop .i) (o .number) (h .1)) ∙ sym (c .before .stands-behind .ensures) ∙ c .if1 .left)))
+    let o = getD (s .t1 .items) (a .loop .i) free in (
+      omega arith,
+      h .1,
+      scan-next (s .t1 .items) 64 asked (h .2) free (omega arith) (omega arith) asked
+          (distinct-hit o _ (sym (behind (s .t1 .items) (a .loop .i) (o .number) (h .1)) ∙ sym (c .before .stands-behind .ensures) ∙ c .if1 .left)),
+    )
 
 returns-2 : tie.Need-returns-2 Inv-loop μ-loop
 unfolding keep distinct
