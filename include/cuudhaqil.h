@@ -46,7 +46,7 @@ uint64_t cuudhaqil_read_step(const uint8_t *record, size_t record_len, uint64_t 
 
 /* Writes a step's record at the start of out. Numbers that the kind does not have play no part, nor do elements beyond.
  * 3: numbers has fewer than 11 elements or list fewer than 16; this goes first, and out stays.
- * 2: no reader takes such a step; out stays.
+ * 2: no reader takes such a step (a place of the list behind its end that is not 0 is one); out stays.
  * 0: out is too short; out stays.
  * Else as many bytes were written, and those beyond them stay. */
 uint64_t cuudhaqil_write_step(const uint64_t *numbers, size_t numbers_len, const uint64_t *list, size_t list_len,

@@ -31,9 +31,3 @@ stepWriting p buffer = writing (canSay (requestOf p)) (encodeStep (p .time) (p .
 
 abbrev pub verdictWriting : Verdict → List ℕ → Writing
 verdictWriting v buffer = writing (canAnswer v) (encodeVerdict (v .answer) (objectsOf (v .list))) buffer
-
--- the paper's number for each answer of a writer: 2 for what no reader takes; written is 0 and full has none
-abbrev pub writeCode : Write → ℕ
-writeCode (Written n) = 0
-writeCode Malformed = 2
-writeCode Full = 3
