@@ -64,6 +64,24 @@ uint64_t cuudhaqil_read_verdict(const uint8_t *record, size_t record_len, uint64
 uint64_t cuudhaqil_write_verdict(const uint64_t *numbers, size_t numbers_len, const uint64_t *list, size_t list_len,
                                  uint8_t *out, size_t out_len);
 
+/* One step on a ledger. A ledger is 529 numbers, and any numbers are one: clock, top name, the occupancy word, 64 places
+ * of five (number, role, epoch, currency, named), the count of manifests and nine places of twenty (number, writer epoch,
+ * compactor epoch, count, sixteen names), the count of holds and eight places of three (number, manifest, expiry). Of a
+ * role and a mark it is told whether they are 0, of a currency the last 16 bits. */
+
+/* Lays the fresh ledger over the first 529 elements; those beyond stay.
+ * 0: done. 3: there are fewer; the slice stays. */
+uint64_t cuudhaqil_fresh(uint64_t *ledger, size_t ledger_len);
+
+/* The step (eleven numbers and sixteen places, as cuudhaqil_read_step gives them) on the ledger.
+ * 0: ledger is the next ledger, verdict its three numbers and objects the 64 places of its list, as cuudhaqil_read_verdict
+ *    gives them; a refusal leaves the ledger's numbers as they were read. Elements beyond these stay.
+ * 2: the numbers say no kind, a role above 1 or a currency of more than 16 bits; all stay.
+ * 3: a slice is too short (529, 11, 16, 3, 64); this goes first, and all stay. */
+uint64_t cuudhaqil_step(uint64_t *ledger, size_t ledger_len, const uint64_t *numbers, size_t numbers_len,
+                        const uint64_t *list, size_t list_len, uint64_t *verdict, size_t verdict_len, uint64_t *objects,
+                        size_t objects_len);
+
 #ifdef __cplusplus
 }
 #endif

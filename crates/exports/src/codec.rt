@@ -35,7 +35,7 @@ const MALFORMED: u64 = 2;
 const NO_PLACE: u64 = 3;
 
 // Lays the numbers over the start of the others.
-fn fill(from: &[u64], to: &mut [u64])
+pub fn fill(from: &[u64], to: &mut [u64])
     requires { ⌜ length (now from) ≤ length (now to) ⌝ }
     ensures { λ _. ⌜ now (to .exit) ≡ over (now (from .entry)) (now (to .entry)) ⌝ }
 {
@@ -71,7 +71,7 @@ pub extern "C" fn cuudhaqil_next_record(trace: &[u8]) -> u64
 
 // Steps
 
-fn role_number(role: Role) -> u64
+pub fn role_number(role: Role) -> u64
     ensures { λ r. ⌜ r ≡ roleNumber role ⌝ }
 {
     match role {
@@ -204,7 +204,7 @@ fn look_of(money: u64, hold: u64) -> KindRead
 }
 
 // The kind that the numbers of a step say; those that it does not have play no part.
-fn kind_of(v: &[u64]) -> KindRead
+pub fn kind_of(v: &[u64]) -> KindRead
     requires { ⌜ stepSize ≤ length (now v) ⌝ }
     ensures { λ r. ⌜ r ≡ kindOf (now (v .entry)) ⌝ }
 {
@@ -270,7 +270,7 @@ pub extern "C" fn cuudhaqil_write_step(numbers: &[u64], list: &[u64], out: &mut 
 // Verdicts
 
 // The answer's case, its value, and the list's count.
-fn verdict_numbers(answer: Answer, n: u64) -> [u64; VERDICT]
+pub fn verdict_numbers(answer: Answer, n: u64) -> [u64; VERDICT]
     ensures { λ r. ⌜ r ≡ verdictNumbers answer n ⌝ }
 {
     match answer {

@@ -1,0 +1,55 @@
+-- `exports::ledgers::object_items` meets its contract: the invariant: what is filled, and then the places from i on, are the places of all.
+-- Assumes nothing.
+use mathlib.Core.Path.{_≡_, refl}
+use mathlib.Core.List.{_++_}
+use Prim.Native.Nat.{_*_, _-_, _≤_}
+use native.Mathlib.Omega.{arith}
+use lib.ListN.{length, take, drop, length-set}
+use borrow.Author.Needs.{needs}
+use Rattle.exports.specs.Ledgers.{each, objectFrom}
+use Rattle.exports.proofs.Places.{each-next, each-done}
+use Rattle.exports.proofs.ledgers.object_items.Statement.{statement}
+use Rattle.exports.proofs.ledgers.object_items.Tie as tie
+
+abbrev Inv-loop : tie.InvT-loop
+Inv-loop v items₀ i₀ items i = (i ≤ 64) × (length items ≡ 64) × (take i items ++ each objectFrom 5 (64 - i) (drop (5 * i) v) ≡ each objectFrom 5 64 v)
+
+abbrev μ-loop : tie.MeasureT-loop
+μ-loop v items₀ i₀ items i = 64 - i
+
+loop-holds : tie.Need-loop-holds Inv-loop μ-loop
+loop-holds c = (omega arith, search needs, refl)
+
+object-from-requires : tie.Need-object-from-requires Inv-loop μ-loop
+object-from-requires c κs = search needs
+
+loop-again : tie.Need-loop-again Inv-loop μ-loop
+loop-again c =
+    let l = c .before .before .before .loop in
+    let v = c .before .before .before .before .before .args .v .now in
+    (omega arith, simp length-set (l .inv .1), each-next objectFrom 5 64 (l .i) v (l .items) (c .object-from .result) (omega arith) (l .inv .1) (c .object-from .ensures) (l .inv .2))
+
+returns : tie.Need-returns Inv-loop μ-loop
+returns c =
+    let l = c .before .loop in
+    each-done objectFrom 5 64 (l .i) (c .before .before .before .args .v .now) (l .items) (omega arith) (l .inv .1) (l .inv .2)
+
+pub object-items-spec : {M : Type 1} → statement M
+object-items-spec =
+    tie.close
+    (tie.spec
+    Inv-loop
+    μ-loop
+    loop-holds
+    (λ c. omega arith)
+    (λ c. omega arith)
+    (λ c. omega arith)
+    (λ c. omega arith)
+    (λ c. omega arith)
+    object-from-requires
+    (λ c. omega arith)
+    (λ c. omega arith)
+    (λ c. omega arith)
+    (λ c. omega arith)
+    loop-again
+    returns)

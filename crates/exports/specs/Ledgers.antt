@@ -1,0 +1,125 @@
+-- A ledger as numbers, of any value, and what C's call of a step answers and leaves in the slices that are lent to be written.
+-- Assumes nothing.
+use mathlib.Core.Bool.{Bool, true, false, not, cond}
+use mathlib.Core.List.{List, [], _∷_, _++_}
+use Prim.Native.Nat.{ℕ, zero, suc, _%_}
+use lib.Dec.{eqb, ltb}
+use lib.ListN.{length, take, drop, getD}
+use Rattle.fields.specs.Fields.{over}
+use Rattle.rules.specs.declared.Role.{Role}
+use Rattle.rules.specs.declared.Role.the-variants.{Writer, Compactor}
+use Rattle.rules.specs.declared.Object.{Object}
+use Rattle.rules.specs.declared.Hold.{Hold}
+use Rattle.rules.specs.Limits.{limits, manifestLimit}
+use Rattle.rules.specs.State.{fresh as freshState}
+use Rattle.records.specs.declared.KindRead.{KindRead}
+use Rattle.records.specs.declared.KindRead.the-variants.{Known, Unknown}
+use Rattle.objects.specs.declared.Objects.{Objects}
+use Rattle.manifests.specs.declared.KeptManifest.{KeptManifest}
+use Rattle.manifests.specs.declared.Manifests.{Manifests}
+use Rattle.holds.specs.declared.Holds.{Holds}
+use Rattle.ledger.specs.declared.Ledger.{Ledger}
+use Rattle.ledger.specs.declared.StepAnswer.{StepAnswer}
+use Rattle.ledger.specs.Ledger.{lay}
+use Rattle.ledger.specs.Step.{stepOf}
+use Rattle.exports.specs.Names.{Call}
+use Rattle.exports.specs.Codec.{roleNumber, stepSize, verdictSize, kindOf, verdictNumbers}
+
+abbrev pub flag : Bool → ℕ
+flag true = 1
+flag false = 0
+
+-- Out: clock, top name, occupancy word, 64 places, the count of manifests and nine places, the count of holds and eight places
+
+abbrev pub objectNumbers : Object → List ℕ
+objectNumbers o = o .number ∷ roleNumber (o .role) ∷ o .epoch ∷ o .currency ∷ flag (o .named) ∷ []
+
+abbrev pub manifestNumbers : KeptManifest → List ℕ
+manifestNumbers m = m .number ∷ m .writer ∷ m .compactor ∷ m .count ∷ m .names
+
+abbrev pub holdNumbers : Hold → List ℕ
+holdNumbers x = x .number ∷ x .manifest ∷ x .expiry ∷ []
+
+unfoldable pub flat : {A : Type 0} → (A → List ℕ) → List A → List ℕ
+flat f [] = []
+flat f (x ∷ xs) = f x ++ flat f xs
+
+unfoldable pub ledgerNumbers : Ledger → List ℕ
+ledgerNumbers l =
+    l .clock ∷ l .top ∷ l .objects .occupancy ∷ (flat objectNumbers (l .objects .items)
+    ++ (l .manifests .count ∷ (flat manifestNumbers (l .manifests .items)
+    ++ (l .holds .count ∷ flat holdNumbers (l .holds .items)))))
+
+-- 3 + 64 * 5 + 1 + 9 * 20 + 1 + 8 * 3
+abbrev pub ledgerSize : ℕ
+ledgerSize = 529
+
+-- In, of any numbers: a role is 0 or not, a mark is 0 or not, a currency's last 16 bits are taken
+
+abbrev pub roleFrom : ℕ → Role
+roleFrom n = cond (eqb n 0) Writer Compactor
+
+abbrev pub objectFrom : List ℕ → Object
+objectFrom v = record { number = getD v 0 0; role = roleFrom (getD v 1 0); epoch = getD v 2 0; currency = getD v 3 0 % 65536; named = not (eqb (getD v 4 0) 0) }
+
+abbrev pub manifestFrom : List ℕ → KeptManifest
+manifestFrom v = record { number = getD v 0 0; writer = getD v 1 0; compactor = getD v 2 0; count = getD v 3 0; names = take (limits .names) (drop 4 v) }
+
+abbrev pub holdFrom : List ℕ → Hold
+holdFrom v = record { number = getD v 0 0; manifest = getD v 1 0; expiry = getD v 2 0 }
+
+-- k places of that many numbers each
+unfoldable pub each : {A : Type 0} → (List ℕ → A) → ℕ → ℕ → List ℕ → List A
+each f size zero v = []
+each f size (suc k) v = f v ∷ each f size k (drop size v)
+
+abbrev pub objectsFrom : List ℕ → Objects
+objectsFrom v = record { occupancy = getD v 2 0; items = each objectFrom 5 (limits .places) (drop 3 v) }
+
+abbrev pub manifestsFrom : List ℕ → Manifests
+manifestsFrom v = record { count = getD v 323 0; items = each manifestFrom 20 (manifestLimit limits) (drop 324 v) }
+
+abbrev pub holdsFrom : List ℕ → Holds
+holdsFrom v = record { count = getD v 504 0; items = each holdFrom 3 (limits .holds) (drop 505 v) }
+
+unfoldable pub ledgerFrom : List ℕ → Ledger
+ledgerFrom v = record { clock = getD v 0 0; top = getD v 1 0; objects = objectsFrom v; manifests = manifestsFrom v; holds = holdsFrom v }
+
+-- The calls
+
+-- 0, or 3 where the slice is too short
+unfoldable pub fresh : List ℕ → Call
+fresh numbers = cond (ltb (length numbers) ledgerSize) (record { answer = 3; left = numbers }) (record { answer = 0; left = over (ledgerNumbers (lay freshState)) numbers })
+
+-- the answer of a step, and every element of the three slices that it may write
+pub record Stepped : Type 0 where
+  pub answer : ℕ
+  pub ledger : List ℕ
+  pub verdict : List ℕ
+  pub objects : List ℕ
+
+module _ (ledger numbers list verdict objects : List ℕ) where
+  abbrev pub untouched : ℕ → Stepped
+  untouched n = record { answer = n; ledger = ledger; verdict = verdict; objects = objects }
+
+  abbrev pub stepped : StepAnswer → Stepped
+  stepped a = record {
+    answer = 0;
+    ledger = over (ledgerNumbers (a .ledger)) ledger;
+    verdict = over (verdictNumbers (a .verdict .answer) (a .verdict .list .count)) verdict;
+    objects = over (a .verdict .list .objects) objects;
+  }
+
+  abbrev pub ofKind : KindRead → Stepped
+  ofKind Unknown = untouched 2
+  ofKind (Known k) = stepped (stepOf (ledgerFrom ledger) (record { time = getD numbers 1 0; kind = k; list = record { count = getD numbers 10 0; names = take (limits .names) list } }))
+
+  -- 3 where a slice is too short; 2 where the numbers say no kind; 0 with the next ledger, the verdict and its list
+  unfoldable pub step : Stepped
+  step =
+      cond (ltb (length ledger) ledgerSize) (untouched 3)
+      (cond (ltb (length numbers) stepSize) (untouched 3)
+      (cond (ltb (length list) (limits .names)) (untouched 3)
+      (cond (ltb (length verdict) verdictSize) (untouched 3)
+      (cond (ltb (length objects) (limits .places)) (untouched 3)
+      (ofKind (kindOf numbers))))))

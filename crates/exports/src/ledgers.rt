@@ -1,0 +1,375 @@
+// One step on any ledger value, for C: the ledger is 529 numbers, the step and the verdict as in the record calls.
+ghost use mathlib.Core.Path.{_≡_};
+ghost use Prim.Native.Nat.{_≤_};
+ghost use lib.ListN.{length, getD, take};
+ghost use Rattle.rules.specs.Limits.{limits, manifestLimit};
+ghost use Rattle.fields.specs.Fields.{over};
+ghost use Rattle.exports.specs.Codec.{stepSize, verdictSize, verdictNumbers};
+ghost use Rattle.exports.specs.Ledgers.{flag, flat, each, roleFrom, objectFrom, manifestFrom, holdFrom, ledgerFrom, objectNumbers, manifestNumbers, holdNumbers, ledgerNumbers, ledgerSize, fresh, step};
+use crate::codec;
+use holds::Holds;
+use ledger::Ledger;
+use manifests::KeptManifest;
+use manifests::Manifests;
+use objects::Objects;
+use records::KindRead;
+use rules::Hold;
+use rules::Kind;
+use rules::NAMES;
+use rules::NameList;
+use rules::Object;
+use rules::PLACES;
+use rules::Role;
+use rules::Step;
+use rules::Verdict;
+
+// How many numbers a ledger, a step and a verdict have, beside the lists.
+const LEDGER: usize = 529;
+
+const STEP: usize = 11;
+
+const VERDICT: usize = 3;
+
+const NO_PLACE: u64 = 3;
+
+const MALFORMED: u64 = 2;
+
+// In
+
+fn role_from(n: u64) -> Role
+    ensures { λ r. ⌜ r ≡ roleFrom n ⌝ }
+{
+    if n == 0 {
+        return Role::Writer;
+    }
+    Role::Compactor
+}
+
+fn object_from(v: &[u64]) -> Object
+    requires { ⌜ 5 ≤ length (now v) ⌝ }
+    ensures { λ r. ⌜ r ≡ objectFrom (now (v .entry)) ⌝ }
+{
+    let number = v[0];
+    let role = role_from(v[1]);
+    let epoch = v[2];
+    let currency = (v[3] % 65536) as u16;
+    let named = v[4] != 0;
+    Object {
+        number,
+        role,
+        epoch,
+        currency,
+        named,
+    }
+}
+
+fn object_items(v: &[u64]) -> [Object; PLACES]
+    requires { ⌜ 320 ≤ length (now v) ⌝ }
+    ensures { λ r. ⌜ r ≡ each objectFrom 5 (limits .places) (now (v .entry)) ⌝ }
+{
+    let zero = Object {
+        number: 0,
+        role: Role::Writer,
+        epoch: 0,
+        currency: 0,
+        named: false,
+    };
+    let mut items = [zero; PLACES];
+    let mut i: usize = 0;
+    while i < PLACES {
+        items[i] = object_from(&v[5 * i..]);
+        i += 1;
+    }
+    items
+}
+
+fn manifest_from(v: &[u64]) -> KeptManifest
+    requires { ⌜ 20 ≤ length (now v) ⌝ }
+    ensures { λ r. ⌜ r ≡ manifestFrom (now (v .entry)) ⌝ }
+{
+    let mut names = [0u64; NAMES];
+    codec::fill(&v[4..20], &mut names);
+    let number = v[0];
+    let writer = v[1];
+    let compactor = v[2];
+    let count = v[3] as usize;
+    KeptManifest {
+        number,
+        writer,
+        compactor,
+        count,
+        names,
+    }
+}
+
+fn manifest_items(v: &[u64]) -> [KeptManifest; 9]
+    requires { ⌜ 180 ≤ length (now v) ⌝ }
+    ensures { λ r. ⌜ r ≡ each manifestFrom 20 (manifestLimit limits) (now (v .entry)) ⌝ }
+{
+    let names = [0u64; NAMES];
+    let zero = KeptManifest {
+        number: 0,
+        writer: 0,
+        compactor: 0,
+        count: 0,
+        names,
+    };
+    let mut items = [zero; 9];
+    let mut i: usize = 0;
+    while i < 9 {
+        items[i] = manifest_from(&v[20 * i..]);
+        i += 1;
+    }
+    items
+}
+
+fn hold_from(v: &[u64]) -> Hold
+    requires { ⌜ 3 ≤ length (now v) ⌝ }
+    ensures { λ r. ⌜ r ≡ holdFrom (now (v .entry)) ⌝ }
+{
+    let number = v[0];
+    let manifest = v[1];
+    let expiry = v[2];
+    Hold {
+        number,
+        manifest,
+        expiry,
+    }
+}
+
+fn hold_items(v: &[u64]) -> [Hold; 8]
+    requires { ⌜ 24 ≤ length (now v) ⌝ }
+    ensures { λ r. ⌜ r ≡ each holdFrom 3 (limits .holds) (now (v .entry)) ⌝ }
+{
+    let zero = Hold {
+        number: 0,
+        manifest: 0,
+        expiry: 0,
+    };
+    let mut items = [zero; 8];
+    let mut i: usize = 0;
+    while i < 8 {
+        items[i] = hold_from(&v[3 * i..]);
+        i += 1;
+    }
+    items
+}
+
+// The ledger that the numbers say, of any value.
+fn ledger_from(v: &[u64]) -> Ledger
+    requires { ⌜ ledgerSize ≤ length (now v) ⌝ }
+    ensures { λ r. ⌜ r ≡ ledgerFrom (now (v .entry)) ⌝ }
+{
+    let occupancy = v[2];
+    let places = object_items(&v[3..]);
+    let objects = Objects {
+        occupancy,
+        items: places,
+    };
+    let kept = v[323] as usize;
+    let all = manifest_items(&v[324..]);
+    let manifests = Manifests {
+        count: kept,
+        items: all,
+    };
+    let held = v[504] as usize;
+    let rest = hold_items(&v[505..]);
+    let holds = Holds {
+        count: held,
+        items: rest,
+    };
+    let clock = v[0];
+    let top = v[1];
+    Ledger {
+        clock,
+        top,
+        objects,
+        manifests,
+        holds,
+    }
+}
+
+// Out
+
+fn flag_number(b: bool) -> u64
+    ensures { λ r. ⌜ r ≡ flag b ⌝ }
+{
+    if b {
+        return 1;
+    }
+    0
+}
+
+fn object_numbers(o: Object) -> [u64; 5]
+    ensures { λ r. ⌜ r ≡ objectNumbers o ⌝ }
+{
+    let role = o.role;
+    let r = codec::role_number(role);
+    let named = o.named;
+    let m = flag_number(named);
+    [o.number, r, o.epoch, o.currency as u64, m]
+}
+
+fn put_objects(items: [Object; PLACES], out: &mut [u64])
+    requires { ⌜ length (now out) ≡ 320 ⌝ }
+    ensures { λ _. ⌜ now (out .exit) ≡ flat objectNumbers items ⌝ }
+{
+    let mut i: usize = 0;
+    while i < PLACES {
+        let o = items[i];
+        let from = object_numbers(o);
+        codec::fill(&from, &mut out[5 * i..5 * i + 5]);
+        i += 1;
+    }
+}
+
+fn manifest_numbers(m: KeptManifest) -> [u64; 20]
+    ensures { λ r. ⌜ r ≡ manifestNumbers m ⌝ }
+{
+    let names = m.names;
+    let mut v = [0u64; 20];
+    v[0] = m.number;
+    v[1] = m.writer;
+    v[2] = m.compactor;
+    v[3] = m.count as u64;
+    codec::fill(&names, &mut v[4..20]);
+    v
+}
+
+fn put_manifests(items: [KeptManifest; 9], out: &mut [u64])
+    requires { ⌜ length (now out) ≡ 180 ⌝ }
+    ensures { λ _. ⌜ now (out .exit) ≡ flat manifestNumbers items ⌝ }
+{
+    let mut i: usize = 0;
+    while i < 9 {
+        let m = items[i];
+        let from = manifest_numbers(m);
+        codec::fill(&from, &mut out[20 * i..20 * i + 20]);
+        i += 1;
+    }
+}
+
+fn hold_numbers(h: Hold) -> [u64; 3]
+    ensures { λ r. ⌜ r ≡ holdNumbers h ⌝ }
+{
+    [h.number, h.manifest, h.expiry]
+}
+
+fn put_holds(items: [Hold; 8], out: &mut [u64])
+    requires { ⌜ length (now out) ≡ 24 ⌝ }
+    ensures { λ _. ⌜ now (out .exit) ≡ flat holdNumbers items ⌝ }
+{
+    let mut i: usize = 0;
+    while i < 8 {
+        let h = items[i];
+        let from = hold_numbers(h);
+        codec::fill(&from, &mut out[3 * i..3 * i + 3]);
+        i += 1;
+    }
+}
+
+// The ledger's numbers, in as many places as they are.
+fn put_ledger(ledger: Ledger, out: &mut [u64])
+    requires { ⌜ length (now out) ≡ ledgerSize ⌝ }
+    ensures { λ _. ⌜ now (out .exit) ≡ ledgerNumbers ledger ⌝ }
+{
+    out[0] = ledger.clock;
+    out[1] = ledger.top;
+    let objects = ledger.objects;
+    out[2] = objects.occupancy;
+    let places = objects.items;
+    put_objects(places, &mut out[3..323]);
+    let manifests = ledger.manifests;
+    out[323] = manifests.count as u64;
+    let all = manifests.items;
+    put_manifests(all, &mut out[324..504]);
+    let holds = ledger.holds;
+    out[504] = holds.count as u64;
+    let rest = holds.items;
+    put_holds(rest, &mut out[505..529]);
+}
+
+// The calls
+
+// The fresh ledger, as numbers.
+#[no_mangle]
+pub extern "C" fn cuudhaqil_fresh(numbers: &mut [u64]) -> u64
+    ensures { λ r. ⌜ fresh (now (numbers .entry)) ≡ record { answer = r; left = now (numbers .exit) } ⌝ }
+{
+    if numbers.len() < LEDGER {
+        return NO_PLACE;
+    }
+    let ledger = Ledger::fresh();
+    put_ledger(ledger, &mut numbers[0..LEDGER]);
+    0
+}
+
+// The step of that kind, with its time and its list.
+fn step_from(kind: Kind, numbers: &[u64], list: &[u64]) -> Step
+    requires { ⌜ (stepSize ≤ length (now numbers)) × (limits .names ≤ length (now list)) ⌝ }
+    ensures { λ r. ⌜ r ≡ record { time = getD (now (numbers .entry)) 1 0; kind = kind; list = record { count = getD (now (numbers .entry)) 10 0; names = take (limits .names) (now (list .entry)) } } ⌝ }
+{
+    let time = numbers[1];
+    let count = numbers[10] as usize;
+    let mut names = [0u64; NAMES];
+    codec::fill(&list[..NAMES], &mut names);
+    let l = NameList { count, names };
+    Step {
+        time,
+        kind,
+        list: l,
+    }
+}
+
+// Lays the verdict's numbers and its list over the start of the others.
+fn put_verdict(said: Verdict, verdict: &mut [u64], objects: &mut [u64])
+    requires { ⌜ (verdictSize ≤ length (now verdict)) × (limits .places ≤ length (now objects)) ⌝ }
+    ensures { λ _. ⌜ (now (verdict .exit) ≡ over (verdictNumbers (said .answer) (said .list .count)) (now (verdict .entry))) × (now (objects .exit) ≡ over (said .list .objects) (now (objects .entry))) ⌝ }
+{
+    let l = said.list;
+    let answer = said.answer;
+    let from = codec::verdict_numbers(answer, l.count as u64);
+    codec::fill(&from, verdict);
+    let dead = l.objects;
+    codec::fill(&dead, objects);
+}
+
+// One step on any ledger: the next ledger in its place, the verdict's numbers and its list.
+#[no_mangle]
+pub extern "C" fn cuudhaqil_step(
+    ledger: &mut [u64],
+    numbers: &[u64],
+    list: &[u64],
+    verdict: &mut [u64],
+    objects: &mut [u64],
+) -> u64
+    ensures { λ r. ⌜ step (now (ledger .entry)) (now (numbers .entry)) (now (list .entry)) (now (verdict .entry)) (now (objects .entry)) ≡ record { answer = r; ledger = now (ledger .exit); verdict = now (verdict .exit); objects = now (objects .exit) } ⌝ }
+{
+    if ledger.len() < LEDGER {
+        return NO_PLACE;
+    }
+    if numbers.len() < STEP {
+        return NO_PLACE;
+    }
+    if list.len() < NAMES {
+        return NO_PLACE;
+    }
+    if verdict.len() < VERDICT {
+        return NO_PLACE;
+    }
+    if objects.len() < PLACES {
+        return NO_PLACE;
+    }
+    let read = codec::kind_of(numbers);
+    let KindRead::Known(kind) = read else {
+        return MALFORMED;
+    };
+    let asked = step_from(kind, numbers, list);
+    let old = ledger_from(ledger);
+    let answered = old.step(asked);
+    let next = answered.ledger;
+    put_ledger(next, &mut ledger[0..LEDGER]);
+    let said = answered.verdict;
+    put_verdict(said, verdict, objects);
+    0
+}
