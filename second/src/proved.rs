@@ -37,6 +37,19 @@ extern "C" {
         out: *mut u8,
         room: usize,
     ) -> u64;
+    fn cuudhaqil_fresh(numbers: *mut u64, count: usize) -> u64;
+    fn cuudhaqil_step(
+        ledger: *mut u64,
+        size: usize,
+        numbers: *const u64,
+        count: usize,
+        list: *const u64,
+        names: usize,
+        verdict: *mut u64,
+        answers: usize,
+        objects: *mut u64,
+        places: usize,
+    ) -> u64;
 }
 
 pub fn read_name(name: &[u8], number: &mut [u64]) -> u64 {
@@ -81,4 +94,27 @@ pub fn write_verdict(numbers: &[u64], list: &[u64], out: &mut [u8]) -> u64 {
     let (numbers, list, out) = (numbers.as_ptr(), list.as_ptr(), out.as_mut_ptr());
     // SAFETY: the pointers come from slices of the lengths given.
     unsafe { cuudhaqil_write_verdict(numbers, count, list, places, out, room) }
+}
+
+pub fn fresh(numbers: &mut [u64]) -> u64 {
+    // SAFETY: the pointer comes from a slice of the length given.
+    unsafe { cuudhaqil_fresh(numbers.as_mut_ptr(), numbers.len()) }
+}
+
+pub fn step(
+    ledger: &mut [u64],
+    numbers: &[u64],
+    list: &[u64],
+    verdict: &mut [u64],
+    objects: &mut [u64],
+) -> u64 {
+    let (size, count, names) = (ledger.len(), numbers.len(), list.len());
+    let (answers, places) = (verdict.len(), objects.len());
+    let (ledger, numbers, list) = (ledger.as_mut_ptr(), numbers.as_ptr(), list.as_ptr());
+    let (verdict, objects) = (verdict.as_mut_ptr(), objects.as_mut_ptr());
+    // SAFETY: the pointers come from slices of the lengths given, and those
+    // that may be written do not overlap.
+    unsafe {
+        cuudhaqil_step(ledger, size, numbers, count, list, names, verdict, answers, objects, places)
+    }
 }

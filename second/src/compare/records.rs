@@ -44,7 +44,7 @@ pub fn read_step(record: &[u8], numbers: &mut [u64], list: &mut [u64]) -> u64 {
 
 /// Kind, time, role, epoch, slot, object, currency, hold, manifest, expiry
 /// and the list's length.
-fn step_numbers(step: &Step) -> [u64; STEP] {
+pub fn step_numbers(step: &Step) -> [u64; STEP] {
     let (time, length) = (step.time, step.list.len() as u64);
     let role_number = |role: Role| u64::from(role == Role::Compactor);
     match step.kind {
@@ -78,9 +78,14 @@ pub fn write_step(numbers: &[u64], list: &[u64], out: &mut [u8]) -> u64 {
     put(step.and_then(|step| records::write_step(&step)), out)
 }
 
-/// `None` where the numbers say no kind, no role, no 16-bit currency or no
-/// list; those that the kind does not have play no part.
 fn step_of(numbers: &[u64], places: &[u64]) -> Option<Step> {
+    let (kind, list) = (kind_of(numbers)?, list_of(numbers[10], places)?);
+    Some(Step { time: numbers[1], kind, list })
+}
+
+/// `None` where the numbers say no kind, no role or no 16-bit currency; those
+/// that the kind does not have play no part.
+pub fn kind_of(numbers: &[u64]) -> Option<Kind> {
     let role = || match numbers[2] {
         0 => Some(Role::Writer),
         1 => Some(Role::Compactor),
@@ -89,7 +94,7 @@ fn step_of(numbers: &[u64], places: &[u64]) -> Option<Step> {
     let currency = || u16::try_from(numbers[6]).ok();
     let (epoch, slot, object) = (numbers[3], numbers[4], numbers[5]);
     let (hold, manifest, expiry) = (numbers[7], numbers[8], numbers[9]);
-    let kind = match numbers[0] {
+    Some(match numbers[0] {
         0 => Kind::Fence { role: role()?, slot },
         1 => Kind::Put { role: role()?, epoch, object, currency: currency()? },
         2 => Kind::Commit { epoch, slot },
@@ -101,12 +106,11 @@ fn step_of(numbers: &[u64], places: &[u64]) -> Option<Step> {
         8 => Kind::Look { currency: currency()?, hold },
         9 => Kind::Collect,
         _ => return None,
-    };
-    Some(Step { time: numbers[1], kind, list: list_of(numbers[10], places)? })
+    })
 }
 
 /// The first places, if there are so many and the others are 0.
-fn list_of(length: u64, places: &[u64]) -> Option<Vec<u64>> {
+pub fn list_of(length: u64, places: &[u64]) -> Option<Vec<u64>> {
     let (list, unused) = places.split_at_checked(usize::try_from(length).ok()?)?;
     unused.iter().all(|place| *place == 0).then(|| list.to_vec())
 }
@@ -129,19 +133,27 @@ pub fn read_verdict(record: &[u8], numbers: &mut [u64], list: &mut [u64]) -> u64
     if numbers.len() < VERDICT || list.len() < PLACES {
         return 3;
     }
-    let (case, value, names) = match records::read_verdict(record) {
-        None => return 2,
-        Some(Verdict::Refused(code)) => (0, code.into(), Vec::new()),
-        Some(Verdict::Done) => (1, 0, Vec::new()),
-        Some(Verdict::Epoch(epoch)) => (2, epoch, Vec::new()),
-        Some(Verdict::Listed { manifest, list }) => (3, manifest, list),
-        Some(Verdict::Found(object)) => (4, object, Vec::new()),
-        Some(Verdict::Collected(list)) => (5, 0, list),
+    let Some(verdict) = records::read_verdict(record) else {
+        return 2;
+    };
+    put_verdict(verdict, numbers, list);
+    0
+}
+
+/// Lays the verdict's case, value and list length, and the places of its
+/// list, over the start of the slices.
+pub fn put_verdict(verdict: Verdict, numbers: &mut [u64], list: &mut [u64]) {
+    let (case, value, names) = match verdict {
+        Verdict::Refused(code) => (0, code.into(), Vec::new()),
+        Verdict::Done => (1, 0, Vec::new()),
+        Verdict::Epoch(epoch) => (2, epoch, Vec::new()),
+        Verdict::Listed { manifest, list } => (3, manifest, list),
+        Verdict::Found(object) => (4, object, Vec::new()),
+        Verdict::Collected(list) => (5, 0, list),
     };
     numbers[..VERDICT].copy_from_slice(&[case, value, names.len() as u64]);
     list[..PLACES].fill(0);
     list[..names.len()].copy_from_slice(&names);
-    0
 }
 
 /// As `write_step`.
@@ -268,7 +280,7 @@ impl Records {
 
 /// A value at an edge of a width, of the table of refusals or of a currency,
 /// or near the time or the list's length.
-fn replacement(random: &mut Random, time: u64, length: u64) -> u64 {
+pub fn replacement(random: &mut Random, time: u64, length: u64) -> u64 {
     match random.below(4) {
         0 => random.pick(&[0, 1, 2, 9, 10, 16, 17, 18, 63, 64, 65, 255, 256, 273]),
         1 => random.pick(&[999, 1000, 65_535, 65_536, 66_514, 1 << 32, 1 << 61, u64::MAX]),
@@ -278,7 +290,7 @@ fn replacement(random: &mut Random, time: u64, length: u64) -> u64 {
 }
 
 /// Mostly the count itself, else one more or fewer.
-fn lent(random: &mut Random, count: usize) -> usize {
+pub fn lent(random: &mut Random, count: usize) -> usize {
     match random.below(12) {
         0 => count - 1,
         1 => count + 1,

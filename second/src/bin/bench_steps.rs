@@ -1,0 +1,143 @@
+//! Nanoseconds per accepted step of each kind, on a ledger of 32 objects, 4
+//! manifests and 4 holds: by the proved library's C call, by the second
+//! program through the same call, and by the second program's ledger alone.
+//!
+//! The first two judge each time whether the ledger is sound, and the copy of
+//! the ledger before each call is in all three.
+
+use std::hint::black_box;
+use std::time::Instant;
+
+use second::compare::ledgers::{self, ledger_numbers, StepCall, LEDGER};
+use second::compare::records::{put_verdict, step_numbers, STEP, VERDICT};
+use second::ledger::Ledger;
+use second::proved;
+use second::raw::raw;
+use second::records::{Kind, Role, Step, Verdict, NAMES, PLACES};
+
+const ROUNDS: usize = 21;
+const CALLS: u32 = 1_000;
+const TIME: u64 = 1_700_000_000;
+
+/// The nanoseconds of one call in each round, in rising order.
+fn rounds(mut call: impl FnMut()) -> Vec<f64> {
+    let round = |_| {
+        let start = Instant::now();
+        (0..CALLS).for_each(|_| call());
+        start.elapsed().as_nanos() as f64 / f64::from(CALLS)
+    };
+    let mut times: Vec<f64> = (0..ROUNDS).map(round).collect();
+    times.sort_by(f64::total_cmp);
+    times
+}
+
+fn at(kind: Kind, list: &[u64]) -> Step {
+    Step { time: TIME, kind, list: list.to_vec() }
+}
+
+/// Objects 1 to 32 of four currencies, manifests 4 to 7 and a hold on each.
+fn sample() -> Ledger {
+    let mut ledger = Ledger::fresh();
+    let mut accept = |kind: Kind, list: &[u64]| {
+        assert_eq!(ledger.step(&at(kind, list)).code(), 0, "{kind:?}");
+    };
+    accept(Kind::Fence { role: Role::Writer, slot: 1 }, &[]);
+    accept(Kind::Fence { role: Role::Compactor, slot: 2 }, &[]);
+    accept(Kind::Fence { role: Role::Writer, slot: 3 }, &[]);
+    for object in 1..=32 {
+        let currency = [756, 840, 978, 985][object as usize % 4];
+        let role = if object % 8 == 0 { Role::Compactor } else { Role::Writer };
+        // Half of the writer's are of an older epoch, so collections find some.
+        let epoch = if object % 2 == 0 { 1 } else { 2 };
+        let epoch = if role == Role::Compactor { 1 } else { epoch };
+        accept(Kind::Put { role, epoch, object, currency }, &[]);
+    }
+    for slot in 4..=7 {
+        let list: Vec<u64> = (slot..slot + 12).collect();
+        accept(Kind::Commit { epoch: 2, slot }, &list);
+        accept(Kind::Hold { hold: slot, manifest: slot, expiry: TIME + slot }, &[]);
+    }
+    let held = (ledger.objects.len(), ledger.manifests.len(), ledger.holds.len());
+    assert_eq!(held, (32, 4, 4));
+    ledger
+}
+
+fn call(step: StepCall, ledger: &[u64], asked: &Step) -> Vec<f64> {
+    let numbers: [u64; STEP] = step_numbers(asked);
+    let mut list = asked.list.clone();
+    list.resize(NAMES, 0);
+    let (mut next, mut verdict, mut objects) = (ledger.to_vec(), [0; VERDICT], [0; PLACES]);
+    rounds(|| {
+        next.copy_from_slice(black_box(ledger));
+        let (numbers, list) = (black_box(&numbers), black_box(&list));
+        black_box(step(&mut next, numbers, list, &mut verdict, &mut objects));
+        black_box((&next, &verdict, &objects));
+    })
+}
+
+fn measure(label: &str, ledger: &Ledger, asked: &Step) {
+    let numbers = ledger_numbers(&raw(ledger));
+    let mut next = ledger.clone();
+    let expected: Verdict = next.step(asked);
+    assert_eq!(expected.code(), 0, "{label}");
+    check(&numbers, asked, &next, expected);
+
+    let proved = call(proved::step, &numbers, asked);
+    let second = call(ledgers::step, &numbers, asked);
+    let alone = rounds(|| {
+        let mut next = black_box(ledger).clone();
+        black_box(next.step(black_box(asked)));
+        black_box(next);
+    });
+    let median = |times: &[f64]| times[ROUNDS / 2];
+    let (one, other) = (median(&proved), median(&second));
+    println!(
+        "{label:<14} {one:8.0} ({:.0} to {:.0})  {other:8.0} ({:.0} to {:.0})  {:8.0}  {:6.2}",
+        proved[0],
+        proved[ROUNDS - 1],
+        second[0],
+        second[ROUNDS - 1],
+        median(&alone),
+        one / other
+    );
+}
+
+/// The proved call gives the same next ledger and verdict.
+fn check(ledger: &[u64], asked: &Step, next: &Ledger, expected: Verdict) {
+    let mut list = asked.list.clone();
+    list.resize(NAMES, 0);
+    let (mut left, mut verdict, mut objects) = (ledger.to_vec(), [0; VERDICT], [0; PLACES]);
+    let numbers = step_numbers(asked);
+    assert_eq!(proved::step(&mut left, &numbers, &list, &mut verdict, &mut objects), 0);
+    let (mut wanted, mut places) = ([0; VERDICT], [0; PLACES]);
+    put_verdict(expected, &mut wanted, &mut places);
+    assert_eq!((verdict, objects), (wanted, places));
+    assert_eq!(left, ledger_numbers(&raw(next)));
+}
+
+fn main() {
+    let ledger = sample();
+    let numbers = ledger_numbers(&raw(&ledger));
+    let mut next = vec![0; LEDGER];
+    let copies = rounds(|| {
+        next.copy_from_slice(black_box(&numbers));
+        black_box(&next);
+    });
+    println!("nanoseconds per step, median of {ROUNDS} rounds of {CALLS} (least to most)");
+    println!("a copy of the ledger's {LEDGER} numbers alone: {:.0}", copies[ROUNDS / 2]);
+    println!("kind           proved  second, same call  second, ledger alone  proved to second");
+    let names: Vec<u64> = (17..33).collect();
+    let put = Kind::Put { role: Role::Writer, epoch: 2, object: 33, currency: 978 };
+    let look = Kind::Look { currency: 978, hold: 5 };
+    let hold = Kind::Hold { hold: 9, manifest: 7, expiry: TIME + 60 };
+    measure("FENCE", &ledger, &at(Kind::Fence { role: Role::Writer, slot: 8 }, &[]));
+    measure("PUT", &ledger, &at(put, &[]));
+    measure("COMMIT of 16", &ledger, &at(Kind::Commit { epoch: 2, slot: 8 }, &names));
+    measure("COMPACT", &ledger, &at(Kind::Compact { epoch: 1, slot: 8, object: 32 }, &[]));
+    measure("HOLD", &ledger, &at(hold, &[]));
+    measure("RENEW", &ledger, &at(Kind::Renew { hold: 5, expiry: TIME + 60 }, &[]));
+    measure("RELEASE", &ledger, &at(Kind::Release { hold: 5 }, &[]));
+    measure("LIST", &ledger, &at(Kind::List { hold: 5 }, &[]));
+    measure("LOOK", &ledger, &at(look, &[]));
+    measure("COLLECT", &ledger, &at(Kind::Collect, &[]));
+}

@@ -1,0 +1,407 @@
+//! Comparison of two ledgers, given as functions, step by step: document 01,
+//! "What the ledger holds" to "When a step is turned away".
+//!
+//! Both sides keep the calling convention of the proved library's C calls: a
+//! ledger is 529 numbers, a step and a verdict are as in the record calls.
+
+use crate::compare::records::{
+    kind_of, lent, list_of, put_verdict, replacement, step_numbers, STEP, VERDICT,
+};
+use crate::compare::{Answers, MARGIN};
+use crate::generate::guided::Guide;
+use crate::ledger::{Ledger, Manifest, HOLDS, MANIFESTS};
+use crate::random::Random;
+use crate::raw::{self, Raw, RawHold, RawManifest, RawObject};
+use crate::records::{Kind, Step, NAMES, PLACES};
+
+/// How many numbers an object, a manifest and a hold have.
+const OBJECT: usize = 5;
+const MANIFEST: usize = 4 + NAMES;
+const HOLD: usize = 3;
+/// Where the objects, the manifests and the holds begin; a count stands
+/// before the manifests and before the holds.
+const OBJECTS_AT: usize = 3;
+const MANIFESTS_AT: usize = OBJECTS_AT + PLACES * OBJECT + 1;
+const HOLDS_AT: usize = MANIFESTS_AT + MANIFESTS * MANIFEST + 1;
+/// How many numbers a ledger has.
+pub const LEDGER: usize = HOLDS_AT + HOLDS * HOLD;
+
+/// The ledger that the numbers say. Any number other than 0 is the compactor
+/// or a mark, and a currency is its last 16 bits: so the calls read them.
+pub fn raw_of(numbers: &[u64]) -> Raw {
+    let objects = numbers[OBJECTS_AT..MANIFESTS_AT - 1].chunks(OBJECT);
+    let manifests = numbers[MANIFESTS_AT..HOLDS_AT - 1].chunks(MANIFEST);
+    let holds = numbers[HOLDS_AT..LEDGER].chunks(HOLD);
+    let object = |o: &[u64]| RawObject {
+        number: o[0],
+        role: u64::from(o[1] != 0),
+        epoch: o[2],
+        currency: o[3] & 0xFFFF,
+        named: u64::from(o[4] != 0),
+    };
+    let manifest = |m: &[u64]| RawManifest {
+        number: m[0],
+        writer: m[1],
+        compactor: m[2],
+        length: m[3],
+        names: m[4..].to_vec(),
+    };
+    Raw {
+        clock: numbers[0],
+        top: numbers[1],
+        occupancy: numbers[2],
+        objects: objects.map(object).collect(),
+        manifest_count: numbers[MANIFESTS_AT - 1],
+        manifests: manifests.map(manifest).collect(),
+        hold_count: numbers[HOLDS_AT - 1],
+        holds: holds.map(|h| RawHold { number: h[0], manifest: h[1], expiry: h[2] }).collect(),
+    }
+}
+
+pub fn ledger_numbers(raw: &Raw) -> Vec<u64> {
+    let mut numbers = vec![raw.clock, raw.top, raw.occupancy];
+    for object in &raw.objects {
+        let RawObject { number, role, epoch, currency, named } = *object;
+        numbers.extend([number, role, epoch, currency, named]);
+    }
+    numbers.push(raw.manifest_count);
+    for manifest in &raw.manifests {
+        let RawManifest { number, writer, compactor, length, ref names } = *manifest;
+        numbers.extend([number, writer, compactor, length]);
+        numbers.extend(names);
+    }
+    numbers.push(raw.hold_count);
+    for hold in &raw.holds {
+        numbers.extend([hold.number, hold.manifest, hold.expiry]);
+    }
+    numbers
+}
+
+/// 0 with the fresh ledger over the start; 3 where too few are lent.
+pub fn fresh(numbers: &mut [u64]) -> u64 {
+    match numbers.get_mut(..LEDGER) {
+        None => 3,
+        Some(room) => {
+            room.copy_from_slice(&ledger_numbers(&raw::raw(&Ledger::fresh())));
+            0
+        }
+    }
+}
+
+/// 0 with the next ledger in place, the verdict's numbers and the places of
+/// its list; 2 where the numbers say no kind; 3 where too few are lent.
+pub fn step(
+    ledger: &mut [u64],
+    numbers: &[u64],
+    list: &[u64],
+    verdict: &mut [u64],
+    objects: &mut [u64],
+) -> u64 {
+    let lent = ledger.len() >= LEDGER
+        && numbers.len() >= STEP
+        && list.len() >= NAMES
+        && verdict.len() >= VERDICT
+        && objects.len() >= PLACES;
+    if !lent {
+        return 3;
+    }
+    let Some(kind) = kind_of(numbers) else {
+        return 2;
+    };
+    // A list that no record can say is malformed, as a list with 0 is.
+    let list = list_of(numbers[10], &list[..NAMES]).unwrap_or(vec![0]);
+    let (answer, next) = raw::step(&raw_of(ledger), &Step { time: numbers[1], kind, list });
+    ledger[..LEDGER].copy_from_slice(&ledger_numbers(&next));
+    put_verdict(answer, verdict, objects);
+    0
+}
+
+pub type FreshCall = fn(&mut [u64]) -> u64;
+pub type StepCall = fn(&mut [u64], &[u64], &[u64], &mut [u64], &mut [u64]) -> u64;
+
+/// One side's calls.
+#[derive(Clone, Copy)]
+pub struct Calls {
+    pub fresh: FreshCall,
+    pub step: StepCall,
+}
+
+pub const SECOND: Calls = Calls { fresh, step };
+
+/// What two sides were asked, and how often.
+#[derive(Debug, Default)]
+pub struct Counts {
+    pub steps: usize,
+    /// 0 done, 2 no kind, 3 too short.
+    pub answers: Answers,
+    /// By the row of the table, 0 for accepted.
+    pub verdicts: Answers,
+    /// Accepted steps by kind, FENCE 0 to COLLECT 9.
+    pub accepted: Answers,
+    /// Steps on a changed ledger that is sound nevertheless.
+    pub damaged_sound: usize,
+    /// Accepted steps by the count of objects before them.
+    pub stored: Answers,
+}
+
+fn count(answers: &mut Answers, key: u64) {
+    *answers.entry(key).or_default() += 1;
+}
+
+impl Counts {
+    pub fn add(&mut self, other: Counts) {
+        self.steps += other.steps;
+        self.damaged_sound += other.damaged_sound;
+        let pairs = [
+            (&mut self.answers, other.answers),
+            (&mut self.verdicts, other.verdicts),
+            (&mut self.accepted, other.accepted),
+            (&mut self.stored, other.stored),
+        ];
+        for (sum, counts) in pairs {
+            for (key, times) in counts {
+                *sum.entry(key).or_default() += times;
+            }
+        }
+    }
+}
+
+/// All that is lent to a step; the margins and the slices that are only
+/// written are filled with the pattern.
+struct Lent<'a> {
+    ledger: &'a [u64],
+    numbers: &'a [u64],
+    list: &'a [u64],
+    verdict: usize,
+    objects: usize,
+    pattern: u64,
+}
+
+/// The answer and what is left, margins too.
+#[derive(PartialEq, Eq)]
+struct Left {
+    answer: u64,
+    ledger: Vec<u64>,
+    verdict: Vec<u64>,
+    objects: Vec<u64>,
+}
+
+impl Lent<'_> {
+    fn call(&self, step: StepCall) -> Left {
+        let size = self.ledger.len();
+        let mut ledger = vec![self.pattern; size + 2 * MARGIN];
+        let mut verdict = vec![self.pattern; self.verdict + 2 * MARGIN];
+        let mut objects = vec![self.pattern; self.objects + 2 * MARGIN];
+        let ledger_room = &mut ledger[MARGIN..MARGIN + size];
+        ledger_room.copy_from_slice(self.ledger);
+        let verdict_room = &mut verdict[MARGIN..MARGIN + self.verdict];
+        let objects_room = &mut objects[MARGIN..MARGIN + self.objects];
+        let answer = step(ledger_room, self.numbers, self.list, verdict_room, objects_room);
+        Left { answer, ledger, verdict, objects }
+    }
+
+    /// The first side's answer; the error names every difference.
+    fn compare(&self, first: Calls, second: Calls) -> Result<Left, String> {
+        let (one, other) = (self.call(first.step), self.call(second.step));
+        if one == other {
+            return Ok(one);
+        }
+        let pairs = [
+            ("ledger", &one.ledger, &other.ledger),
+            ("verdict", &one.verdict, &other.verdict),
+            ("objects", &one.objects, &other.objects),
+        ];
+        let mut told = format!("answers {} and {}", one.answer, other.answer);
+        for (name, one, other) in pairs {
+            for (place, (one, other)) in one.iter().zip(other).enumerate() {
+                if one != other {
+                    let place = place as i64 - MARGIN as i64;
+                    told += &format!("; {name}[{place}] first {one}, second {other}");
+                }
+            }
+        }
+        Err(format!(
+            "{told}\nstep {:?}, list {:?}, {} verdict numbers, {} places, filled with {}\n\
+             ledger before {:?}",
+            self.numbers, self.list, self.verdict, self.objects, self.pattern, self.ledger
+        ))
+    }
+}
+
+/// How the steps of a sequence are made.
+#[derive(Debug, Clone, Copy, PartialEq, Eq)]
+pub enum Course {
+    /// From the fresh ledger.
+    Fresh,
+    /// From a sound ledger whose numbers are near 2^64-1.
+    High,
+    /// From the fresh ledger, and one number is changed before many steps.
+    Damaged,
+}
+
+/// Compares two sides on a sequence of that many steps.
+pub fn compare_sequence(
+    random: &mut Random,
+    guide: &mut Guide,
+    course: Course,
+    length: usize,
+    first: Calls,
+    second: Calls,
+) -> Result<Counts, String> {
+    let mut counts = Counts::default();
+    let mut numbers = compare_fresh(random, first, second)?;
+    if course == Course::High {
+        numbers = ledger_numbers(&raw::raw(&high(random)));
+    }
+    let mut ledger = raw::from_raw(&raw_of(&numbers)).ok_or("the start is not sound")?;
+    for _ in 0..length {
+        let damaged = course == Course::Damaged && random.below(4) != 0;
+        let mut before = numbers.clone();
+        if damaged {
+            damage(random, &mut before);
+        }
+        let step = asked(random, &guide.next(&ledger), course);
+        let left = compare_step(random, &before, &step, first, second)?;
+        counts.steps += 1;
+        count(&mut counts.answers, left.answer);
+        if left.answer != 0 {
+            continue;
+        }
+        let row = if left.verdict[MARGIN] == 0 { left.verdict[MARGIN + 1] } else { 0 };
+        count(&mut counts.verdicts, row);
+        if row == 0 {
+            count(&mut counts.accepted, step.0[0]);
+            count(&mut counts.stored, before[2].count_ones().into());
+        }
+        let changed = damaged && before != numbers;
+        counts.damaged_sound += usize::from(changed && row != 1);
+        // A damaged ledger that is sound is at times gone on with.
+        if row == 0 && !(changed && random.once_in(2)) {
+            numbers.copy_from_slice(&left.ledger[MARGIN..MARGIN + LEDGER]);
+            ledger = raw::from_raw(&raw_of(&numbers)).ok_or("the next ledger is not sound")?;
+        }
+    }
+    Ok(counts)
+}
+
+fn compare_fresh(random: &mut Random, first: Calls, second: Calls) -> Result<Vec<u64>, String> {
+    for size in [LEDGER - 1, LEDGER + 1, random.index(LEDGER), LEDGER] {
+        let pattern = random.any();
+        let call = |fresh: FreshCall| {
+            let mut numbers = vec![pattern; size + 2 * MARGIN];
+            (fresh(&mut numbers[MARGIN..MARGIN + size]), numbers)
+        };
+        let (one, other) = (call(first.fresh), call(second.fresh));
+        if one != other {
+            return Err(format!("fresh in {size}: first {one:?}, second {other:?}"));
+        }
+        if size == LEDGER {
+            return Ok(one.1[MARGIN..MARGIN + LEDGER].to_vec());
+        }
+    }
+    unreachable!("the last size is the ledger's")
+}
+
+/// One step, at times with too few or too many lent.
+fn compare_step(
+    random: &mut Random,
+    ledger: &[u64],
+    step: &(Vec<u64>, Vec<u64>),
+    first: Calls,
+    second: Calls,
+) -> Result<Left, String> {
+    let pattern = random.any();
+    let (mut ledger, mut numbers, mut list) = (ledger.to_vec(), step.0.clone(), step.1.clone());
+    let (mut verdict, mut objects) = (VERDICT, PLACES);
+    if random.once_in(40) {
+        ledger.resize(lent(random, LEDGER), pattern);
+        numbers.resize(lent(random, STEP), pattern);
+        list.resize(lent(random, NAMES), pattern);
+        (verdict, objects) = (lent(random, VERDICT), lent(random, PLACES));
+    }
+    let lent = Lent { ledger: &ledger, numbers: &numbers, list: &list, verdict, objects, pattern };
+    lent.compare(first, second)
+}
+
+/// The step's numbers and the places of its list, now and then with some of
+/// them replaced.
+fn asked(random: &mut Random, step: &Step, course: Course) -> (Vec<u64>, Vec<u64>) {
+    let mut step = step.clone();
+    if let (Course::High, Kind::Hold { hold, .. }) = (course, &mut step.kind) {
+        if *hold != 0 && random.below(4) != 0 {
+            *hold = u64::MAX - *hold % 20;
+        }
+    }
+    let mut numbers = step_numbers(&step).to_vec();
+    let mut list = step.list;
+    list.resize(NAMES, 0);
+    if random.once_in(25) {
+        let place = random.index(STEP);
+        numbers[place] = replacement(random, numbers[1], numbers[STEP - 1]);
+    }
+    if random.once_in(100) {
+        let place = random.index(NAMES);
+        list[place] = replacement(random, numbers[1], list[0]);
+    }
+    (numbers, list)
+}
+
+/// A sound ledger with one manifest, whose numbers are near 2^64-1.
+fn high(random: &mut Random) -> Ledger {
+    let mut near = |below: u64| u64::MAX - random.below(below);
+    let (clock, top, number) = (near(2_000), near(1_000), near(300));
+    let writer = match near(3) % 3 {
+        0 => number / 2,
+        1 => number - 1,
+        _ => 1,
+    };
+    // The epochs add to the manifest's number, or nearly.
+    let compactor = (number - writer).saturating_sub(near(3) % 3);
+    let mut ledger = Ledger::fresh();
+    (ledger.clock, ledger.top) = (clock, top);
+    ledger.manifests = [(number, Manifest { writer, compactor, list: [].into() })].into();
+    ledger
+}
+
+/// Changes one number, or swaps two, or two places.
+fn damage(random: &mut Random, numbers: &mut [u64]) {
+    let place = damaged_place(random, numbers);
+    let other = damaged_place(random, numbers);
+    match random.below(8) {
+        0 => numbers[place] ^= 1 << random.below(64),
+        1 => numbers[place] ^= 1 << random.below(4),
+        2 => numbers.swap(place, other),
+        3 => numbers[place] = numbers[other],
+        4 => numbers[place] = numbers[place].wrapping_add(1),
+        5 => numbers[place] = numbers[place].wrapping_sub(1),
+        6 => numbers[place] = replacement(random, numbers[0], numbers[1]),
+        _ => {
+            let (start, size, places) = random.pick(&[
+                (OBJECTS_AT, OBJECT, PLACES),
+                (MANIFESTS_AT, MANIFEST, MANIFESTS),
+                (HOLDS_AT, HOLD, HOLDS),
+            ]);
+            let (one, two) = (random.index(places), random.index(places));
+            for entry in 0..size {
+                numbers.swap(start + one * size + entry, start + two * size + entry);
+            }
+        }
+    }
+}
+
+/// A place of a ledger, most often one whose number is not 0.
+fn damaged_place(random: &mut Random, numbers: &[u64]) -> usize {
+    match random.below(8) {
+        0 => random.index(LEDGER),
+        1 => random.pick(&[0, 1, 2, MANIFESTS_AT - 1, HOLDS_AT - 1]),
+        2 => MANIFESTS_AT + random.index(LEDGER - MANIFESTS_AT),
+        _ => {
+            let start = random.index(LEDGER);
+            let mut places = (start..LEDGER).chain(0..start);
+            places.find(|place| numbers[*place] != 0).unwrap_or(start)
+        }
+    }
+}
+
+#[cfg(test)]
+mod tests;

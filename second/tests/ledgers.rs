@@ -1,0 +1,58 @@
+//! The proved library's ledger against the second one, step by step.
+
+use second::compare::ledgers::{compare_sequence, Calls, Counts, Course, SECOND};
+use second::compare::Answers;
+use second::generate::guided::Guide;
+use second::proved;
+use second::random::Random;
+
+const PROVED: Calls = Calls { fresh: proved::fresh, step: proved::step };
+const LENGTH: usize = 1_000;
+
+fn agree(seed: u64, course: Course, sequences: usize) -> Counts {
+    let (mut random, mut guide) = (Random::new(seed), Guide::new(seed + 1));
+    let mut counts = Counts::default();
+    for sequence in 0..sequences {
+        let compared = compare_sequence(&mut random, &mut guide, course, LENGTH, PROVED, SECOND);
+        counts.add(compared.unwrap_or_else(|difference| {
+            panic!("{course:?}, sequence {sequence}: ledgers differ: {difference}")
+        }));
+    }
+    let Counts { steps, answers, verdicts, accepted, damaged_sound, .. } = &counts;
+    println!("{course:?}: {steps} steps, answers {answers:?}");
+    println!("  by row of the table: {verdicts:?}");
+    println!("  accepted by kind: {accepted:?}");
+    println!("  changed ledgers that are sound: {damaged_sound}");
+    counts
+}
+
+fn all_given(answers: &Answers, expected: impl IntoIterator<Item = u64>, least: usize) {
+    for answer in expected {
+        assert!(answers.get(&answer) >= Some(&least), "{answer} of {answers:?}");
+    }
+}
+
+#[test]
+fn ledgers_agree_from_fresh() {
+    let counts = agree(20_240_621, Course::Fresh, 700);
+    all_given(&counts.answers, [0, 2, 3], 1_000);
+    all_given(&counts.verdicts, (0..=17).filter(|row| *row != 1), 1_000);
+    all_given(&counts.accepted, 0..=9, 1_000);
+    // Empty and full stores, and all between.
+    all_given(&counts.stored, 0..=64, 100);
+}
+
+#[test]
+fn ledgers_agree_near_the_highest_numbers() {
+    let counts = agree(20_240_623, Course::High, 200);
+    all_given(&counts.verdicts, (0..=17).filter(|row| *row != 1), 100);
+    all_given(&counts.accepted, 0..=9, 100);
+}
+
+#[test]
+fn damaged_ledgers_are_judged_alike() {
+    let counts = agree(20_240_625, Course::Damaged, 300);
+    all_given(&counts.verdicts, 0..=17, 100);
+    all_given(&counts.verdicts, [0, 1], 1_000);
+    assert!(counts.damaged_sound >= 1_000, "{counts:?}");
+}
