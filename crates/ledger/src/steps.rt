@@ -83,7 +83,7 @@ impl Ledger {
         rows::slot_row(slot, current.number)
     }
 
-    fn fence(self, time: u64, role: Role, slot: u64) -> StepAnswer
+    fn fence(mut self, time: u64, role: Role, slot: u64) -> StepAnswer
         requires { ⌜ Admitted self time (FENCE role slot) [] ⌝ }
         ensures { λ r. ⌜ r ≡ ruled (Asked time (FENCE role slot) []) self ⌝ }
     {
@@ -98,13 +98,13 @@ impl Ledger {
         match role {
             Role::Writer => {
                 let epoch = current.writer + 1;
-                let next = self.published(time, epoch, current.compactor, count, names);
-                accepted(Answer::Epoch(epoch), next)
+                self = self.published(time, epoch, current.compactor, count, names);
+                accepted(Answer::Epoch(epoch), self)
             }
             Role::Compactor => {
                 let epoch = current.compactor + 1;
-                let next = self.published(time, current.writer, epoch, count, names);
-                accepted(Answer::Epoch(epoch), next)
+                self = self.published(time, current.writer, epoch, count, names);
+                accepted(Answer::Epoch(epoch), self)
             }
         }
     }
@@ -137,7 +137,7 @@ impl Ledger {
         0
     }
 
-    fn put(self, time: u64, role: Role, epoch: u64, object: u64, currency: u16) -> StepAnswer
+    fn put(mut self, time: u64, role: Role, epoch: u64, object: u64, currency: u16) -> StepAnswer
         requires { ⌜ Admitted self time (PUT role epoch object currency) [] ⌝ }
         ensures { λ r. ⌜ r ≡ ruled (Asked time (PUT role epoch object currency) []) self ⌝ }
     {
@@ -152,19 +152,11 @@ impl Ledger {
             currency,
             named: false,
         };
-        let next = self.settled(time);
-        let places = next.objects;
-        let objects = places.put(o);
-        let manifests = next.manifests;
-        let holds = next.holds;
-        let ledger = Ledger {
-            clock: time,
-            top: object,
-            objects,
-            manifests,
-            holds,
-        };
-        accepted(Answer::Done, ledger)
+        self = self.settled(time);
+        let places = self.objects;
+        self.objects = places.put(o);
+        self.top = object;
+        accepted(Answer::Done, self)
     }
 
     // COMMIT
@@ -192,7 +184,7 @@ impl Ledger {
         0
     }
 
-    fn commit(self, time: u64, epoch: u64, slot: u64, list: NameList) -> StepAnswer
+    fn commit(mut self, time: u64, epoch: u64, slot: u64, list: NameList) -> StepAnswer
         requires { ⌜ (Admitted self time (COMMIT epoch slot) (namesOf list)) × (isPadded (list .count) (list .names) ≡ true) ⌝ }
         ensures { λ r. ⌜ r ≡ ruled (Asked time (COMMIT epoch slot) (namesOf list)) self ⌝ }
     {
@@ -204,8 +196,8 @@ impl Ledger {
         let current = manifests.current();
         let count = list.count;
         let names = list.names;
-        let next = self.published(time, current.writer, current.compactor, count, names);
-        accepted(Answer::Done, next)
+        self = self.published(time, current.writer, current.compactor, count, names);
+        accepted(Answer::Done, self)
     }
 
     // COMPACT
@@ -237,7 +229,7 @@ impl Ledger {
         0
     }
 
-    fn compact(self, time: u64, epoch: u64, slot: u64, object: u64) -> StepAnswer
+    fn compact(mut self, time: u64, epoch: u64, slot: u64, object: u64) -> StepAnswer
         requires { ⌜ Admitted self time (COMPACT epoch slot object) [] ⌝ }
         ensures { λ r. ⌜ r ≡ ruled (Asked time (COMPACT epoch slot object) []) self ⌝ }
     {
@@ -250,8 +242,8 @@ impl Ledger {
         let list = self.compacted(object);
         let count = list.count;
         let names = list.names;
-        let next = self.published(time, current.writer, current.compactor, count, names);
-        accepted(Answer::Done, next)
+        self = self.published(time, current.writer, current.compactor, count, names);
+        accepted(Answer::Done, self)
     }
 
     // HOLD, RENEW, RELEASE
@@ -278,7 +270,7 @@ impl Ledger {
         0
     }
 
-    fn hold(self, time: u64, hold: u64, manifest: u64, expiry: u64) -> StepAnswer
+    fn hold(mut self, time: u64, hold: u64, manifest: u64, expiry: u64) -> StepAnswer
         requires { ⌜ Admitted self time (HOLD hold manifest expiry) [] ⌝ }
         ensures { λ r. ⌜ r ≡ ruled (Asked time (HOLD hold manifest expiry) []) self ⌝ }
     {
@@ -293,8 +285,8 @@ impl Ledger {
         };
         let holds = self.holds;
         let live = holds.live(time);
-        let next = self.holding(time, live.insert(new));
-        accepted(Answer::Done, next)
+        self = self.holding(time, live.insert(new));
+        accepted(Answer::Done, self)
     }
 
     // Row 15: a hold that is not 0 is live.
@@ -313,7 +305,7 @@ impl Ledger {
         15
     }
 
-    fn renew(self, time: u64, hold: u64, expiry: u64) -> StepAnswer
+    fn renew(mut self, time: u64, hold: u64, expiry: u64) -> StepAnswer
         requires { ⌜ Admitted self time (RENEW hold expiry) [] ⌝ }
         ensures { λ r. ⌜ r ≡ ruled (Asked time (RENEW hold expiry) []) self ⌝ }
     {
@@ -323,11 +315,11 @@ impl Ledger {
         }
         let holds = self.holds;
         let live = holds.live(time);
-        let next = self.holding(time, live.renew(hold, expiry));
-        accepted(Answer::Done, next)
+        self = self.holding(time, live.renew(hold, expiry));
+        accepted(Answer::Done, self)
     }
 
-    fn release(self, time: u64, hold: u64) -> StepAnswer
+    fn release(mut self, time: u64, hold: u64) -> StepAnswer
         requires { ⌜ Admitted self time (RELEASE hold) [] ⌝ }
         ensures { λ r. ⌜ r ≡ ruled (Asked time (RELEASE hold) []) self ⌝ }
     {
@@ -337,8 +329,8 @@ impl Ledger {
         }
         let holds = self.holds;
         let live = holds.live(time);
-        let next = self.holding(time, live.release(hold));
-        accepted(Answer::Done, next)
+        self = self.holding(time, live.release(hold));
+        accepted(Answer::Done, self)
     }
 
     // LIST and LOOK
@@ -357,7 +349,7 @@ impl Ledger {
         manifests.numbered(live.manifest_by(hold))
     }
 
-    fn list(self, time: u64, hold: u64) -> StepAnswer
+    fn list(mut self, time: u64, hold: u64) -> StepAnswer
         requires { ⌜ Admitted self time (LIST hold) [] ⌝ }
         ensures { λ r. ⌜ r ≡ ruled (Asked time (LIST hold) []) self ⌝ }
     {
@@ -371,11 +363,14 @@ impl Ledger {
         let list = object_list(&names[..count]);
         let answer = Answer::Listed(m.number);
         let verdict = Verdict { answer, list };
-        let ledger = self.settled(time);
-        StepAnswer { verdict, ledger }
+        self = self.settled(time);
+        StepAnswer {
+            verdict,
+            ledger: self,
+        }
     }
 
-    fn look(self, time: u64, currency: u16, hold: u64) -> StepAnswer
+    fn look(mut self, time: u64, currency: u16, hold: u64) -> StepAnswer
         requires { ⌜ Admitted self time (LOOK currency hold) [] ⌝ }
         ensures { λ r. ⌜ r ≡ ruled (Asked time (LOOK currency hold) []) self ⌝ }
     {
@@ -391,8 +386,8 @@ impl Ledger {
         if found == 0 {
             return refused(16, self);
         }
-        let ledger = self.settled(time);
-        accepted(Answer::Found(found), ledger)
+        self = self.settled(time);
+        accepted(Answer::Found(found), self)
     }
 }
 

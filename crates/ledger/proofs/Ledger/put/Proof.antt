@@ -53,7 +53,7 @@ accepted-requires c κs = search needs
 
 returns-2 : tie.Need-returns-2
 returns-2 c =
-    let p = c .before .before .before in
+    let p = c .before in
     let d = p .before .before in
     let e = d .before in
     let b = e .before in
@@ -62,7 +62,7 @@ returns-2 c =
     let o : Object = record { number = s .object; role = s .role; epoch = s .epoch; currency = s .currency; named = false } in
     c .accepted .ensures
     ∙ (λ i. answeredWith (alone Done) (record {
-      clock = s .time;
+      clock = d .settled .ensures i .clock;
       top = s .object;
       objects = (p .put .ensures ∙ ap (λ (l : Ledger). layPlaces (place o (l .objects .items))) (d .settled .ensures)) i;
       manifests = d .settled .ensures i .manifests;
