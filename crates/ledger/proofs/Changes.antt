@@ -20,6 +20,7 @@ use Rattle.rules.proofs.Numbers.{has-in, keep-length, rising-keep}
 use Rattle.rules.proofs.Bounds.{kept-few}
 use Rattle.rules.proofs.SoundEnds.{current-kept, settle-shape}
 use Rattle.rules.proofs.Soundness.{compacted-length}
+use Rattle.rules.proofs.Typed.{padded-take, padded-said}
 use Rattle.arrays.proofs.Sorting.{length-inserted}
 use Rattle.objects.specs.Objects.{currencyIn}
 use Rattle.manifests.specs.Manifests.{manifestOf, manifestsOf, olderOf}
@@ -31,7 +32,7 @@ use Rattle.ledger.specs.declared.Ledger.{Ledger}
 use Rattle.ledger.specs.Ledger.{view, isSound}
 use Rattle.ledger.specs.Step.{Insertable, othersIn}
 use Rattle.ledger.proofs.View.{Sized, sound-parts, sound-shape, kept-view}
-use Rattle.ledger.proofs.Names.{list-padded, list-said, inserted-absent}
+use Rattle.ledger.proofs.Names.{inserted-absent}
 
 -- the holds that are live then, in their places
 abbrev pub liveThen : ℕ → Ledger → Holds
@@ -98,12 +99,12 @@ module _ (l : Ledger) (n : ℕ) where
         )
 
     said : namesOf (nameList otherNames) ≡ otherNames
-    said = let h = few in list-said otherNames (omega arith)
+    said = let h = few in padded-take (limits .names) otherNames (omega arith)
 
     pub others-insertable : Insertable (nameList otherNames) n
     others-insertable =
         let h = few in
-        record { padded = list-padded otherNames (omega arith); room = h; rising = rw said rising; absent = rw said absent }
+        record { padded = padded-said (limits .names) otherNames (omega arith); room = h; rising = rw said rising; absent = rw said absent }
 
     pub others-compacted : nameList (insert n (namesOf (nameList otherNames))) ≡ nameList (compacted (view l) n)
     others-compacted = ap (λ (ms : List ℕ). nameList (insert n ms)) said ∙ ap nameList (sym compacted-others)

@@ -2,25 +2,24 @@
 -- Assumes nothing.
 use mathlib.Core.Path.{_≡_, refl, ap, _∙_}
 use mathlib.Core.Bool.{Bool, true, false, cond, _&&_}
-use mathlib.Core.List.{List, [], _∷_, map}
+use mathlib.Core.List.{List, [], _∷_}
 use Prim.Native.Nat.{ℕ}
 use lib.Dec.{leb, eqb}
-use Rattle.rules.specs.declared.Step.{Step}
 use Rattle.rules.specs.declared.Answer.the-variants.{Refused}
 use Rattle.rules.specs.Limits.{limits}
 use Rattle.rules.specs.State.{State, fresh}
 use Rattle.rules.specs.Sound.{sound}
-use Rattle.rules.specs.Request.{Request}
+use Rattle.rules.specs.Request.{Request, Ask}
 use Rattle.rules.specs.Step.{alone, size, effect, granted, verdict, reply, accepts, next}
-use Rattle.rules.specs.Typed.{requestOf, verdictOf}
+use Rattle.rules.specs.Typed.{verdictOf}
 use Rattle.rules.specs.Demand3.{ledgerFrom, ledgerOf}
 use Rattle.rules.proofs.Soundness.{sound-fresh, next-sound}
 use Rattle.rules.proofs.Whole.{whole}
 use Rattle.ledger.specs.declared.Ledger.{Ledger}
 use Rattle.ledger.specs.declared.StepAnswer.{StepAnswer}
 use Rattle.ledger.specs.Ledger.{lay, isSound}
-use Rattle.ledger.specs.Step.{refusedWith, answeredWith, ruled, stepOf}
-use Rattle.ledger.specs.Demand3.{TypedAsk, askOf, keptAfter, ledgerAfter, Delivered}
+use Rattle.ledger.specs.Step.{refusedWith, answeredWith, ruled, judged}
+use Rattle.ledger.specs.Demand3.{keptAfter, ledgerAfter, Delivered}
 use Rattle.ledger.proofs.SoundLaw.{view-lay, lay-sound}
 
 -- what the rules give, laid out
@@ -33,15 +32,13 @@ module _ (s : State) (e : sound limits s ≡ true) where
   by-row true n q = refl
   by-row false n q = refl
 
-  pub step-laid : (p : Step) → stepOf (lay s) p ≡ ruledAt (verdict limits (sound limits) s (requestOf p)) (requestOf p) s
-  unfolding stepOf ruled
-  step-laid p =
-      let q = requestOf p in
-      rw (lay-sound s e, view-lay s) (by-row (eqb (verdict limits (sound limits) s q) 0) (verdict limits (sound limits) s q) q)
+  pub step-laid : (q : Request) → judged (lay s) q ≡ ruledAt (verdict limits (sound limits) s q) q s
+  unfolding judged ruled
+  step-laid q = rw (lay-sound s e, view-lay s) (by-row (eqb (verdict limits (sound limits) s q) 0) (verdict limits (sound limits) s q) q)
 
-  pub verdict-laid : (p : Step) → stepOf (lay s) p .verdict ≡ verdictOf (reply limits (sound limits) s (requestOf p))
+  pub verdict-laid : (q : Request) → judged (lay s) q .verdict ≡ verdictOf (reply limits (sound limits) s q)
   unfolding reply
-  verdict-laid p = ap (λ (r : StepAnswer). r .verdict) (step-laid p)
+  verdict-laid q = ap (λ (r : StepAnswer). r .verdict) (step-laid q)
 
   kept-by : (b c : Bool) (t u : State) → cond c (lay (cond b t u)) (lay u) ≡ lay (cond (b && c) t u)
   kept-by true true t u = refl
@@ -49,28 +46,28 @@ module _ (s : State) (e : sound limits s ≡ true) where
   kept-by false true t u = refl
   kept-by false false t u = refl
 
-  pub next-laid : (a : TypedAsk) → keptAfter (lay s) a ≡ lay (next limits (sound limits) s (askOf a))
+  pub next-laid : (a : Ask) → keptAfter (lay s) a ≡ lay (next limits (sound limits) s a)
   unfolding next accepts reply
   next-laid a =
-      let q = requestOf (a .step) in
+      let q = a .request in
       let n = verdict limits (sound limits) s q in
-      rw (step-laid (a .step)) (kept-by (eqb n 0) (leb (size (reply limits (sound limits) s q)) (a .room)) (effect q s) s)
+      rw (step-laid q) (kept-by (eqb n 0) (leb (size (reply limits (sound limits) s q)) (a .room)) (effect q s) s)
 
 -- a sequence, from any sound state on
-pub after-laid : (s : State) → sound limits s ≡ true → (asks : List TypedAsk) → ledgerAfter (lay s) asks ≡ lay (ledgerFrom limits (sound limits) s (map askOf asks))
+pub after-laid : (s : State) → sound limits s ≡ true → (asks : List Ask) → ledgerAfter (lay s) asks ≡ lay (ledgerFrom limits (sound limits) s asks)
 unfolding ledgerAfter ledgerFrom
 after-laid s e [] = refl
 after-laid s e (a ∷ asks) =
     ap (λ (l : Ledger). ledgerAfter l asks) (next-laid s e a)
-    ∙ after-laid (next limits (sound limits) s (askOf a)) (next-sound limits (sound limits) s (askOf a) e) asks
+    ∙ after-laid (next limits (sound limits) s a) (next-sound limits (sound limits) s a e) asks
 
-pub delivered : (asks : List TypedAsk) → Delivered asks
+pub delivered : (asks : List Ask) → Delivered asks
 delivered asks =
     let laid = after-laid fresh (sound-fresh limits) asks in
-    let w = whole (map askOf asks) in
+    let w = whole asks in
     record {
       laid = laid;
-      isSound = ap isSound laid ∙ lay-sound (ledgerOf (map askOf asks)) (w .isSound);
-      answers = λ p. ap (λ (l : Ledger). stepOf l p .verdict) laid ∙ verdict-laid (ledgerOf (map askOf asks)) (w .isSound) p;
+      isSound = ap isSound laid ∙ lay-sound (ledgerOf asks) (w .isSound);
+      answers = λ q. ap (λ (l : Ledger). judged l q .verdict) laid ∙ verdict-laid (ledgerOf asks) (w .isSound) q;
       whole = w;
     }

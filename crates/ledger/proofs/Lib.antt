@@ -11,3 +11,4 @@ pub mod Collecting
 pub mod Freeing
 pub mod Whole
 pub mod Demand3
+pub mod Depot

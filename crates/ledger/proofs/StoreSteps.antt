@@ -28,6 +28,7 @@ use Rattle.rules.proofs.Numbers.{rising-above}
 use Rattle.rules.proofs.Ordered.{ordered-sum}
 use Rattle.rules.proofs.SoundEnds.{current-kept}
 use Rattle.rules.proofs.Soundness.{compacted-length}
+use Rattle.rules.proofs.Typed.{padded-take, padded-said}
 use Rattle.objects.specs.Objects.{roleEpoch, currencyIn, ofCurrencyIn}
 use Rattle.manifests.specs.declared.KeptManifest.{KeptManifest}
 use Rattle.manifests.specs.Manifests.{manifestOf, currentOf, pastEnd, isListLaid, isLaid}
@@ -39,7 +40,6 @@ use Rattle.ledger.specs.Ledger.{lay, view, isSound}
 use Rattle.ledger.specs.Rows.{slotRow, fenceRow, rowBehind}
 use Rattle.ledger.specs.Step.{answeredWith}
 use Rattle.ledger.proofs.View.{Sized, sound-parts, sound-shape}
-use Rattle.ledger.proofs.Names.{list-padded, list-said}
 use Rattle.ledger.proofs.Live.{fence-rows, put-rows, commit-rows, compact-rows}
 
 -- The first rows of a chain, tested by themselves
@@ -218,7 +218,7 @@ module _ (l : Ledger) (e : isSound l ≡ true) (n : ℕ) (some : row17 (view l) 
   compacted-few = omega (arith, compacted-length (view l) n some, sound-shape l e .short _ (current-kept (view l)))
 
   pub compacted-padded : {ns : NameList} → ns ≡ nameList (compacted (view l) n) → isPadded (ns .count) (ns .names) ≡ true
-  compacted-padded is = ap (λ (ns : NameList). isPadded (ns .count) (ns .names)) is ∙ list-padded (compacted (view l) n) compacted-few
+  compacted-padded is = ap (λ (ns : NameList). isPadded (ns .count) (ns .names)) is ∙ padded-said (limits .names) (compacted (view l) n) compacted-few
 
   pub compacted-said : {ns : NameList} → ns ≡ nameList (compacted (view l) n) → take (ns .count) (ns .names) ≡ compacted (view l) n
-  compacted-said is = ap namesOf is ∙ list-said (compacted (view l) n) compacted-few
+  compacted-said is = ap namesOf is ∙ padded-take (limits .names) (compacted (view l) n) compacted-few

@@ -21,9 +21,14 @@ use Rattle.rules.specs.Typed.{isPadded, namesOf, requestOf, canSay}
 use Rattle.rules.proofs.Lists.{decide, conj-true}
 use Rattle.ledger.specs.declared.Ledger.{Ledger}
 use Rattle.ledger.specs.Ledger.{view, isSound}
-use Rattle.ledger.specs.Step.{Admitted, refusedWith, ruled, stepOf, doorOf}
+use Rattle.ledger.specs.Step.{Admitted, refusedWith, ruled, judged, stepOf, doorOf}
 use Rattle.ledger.proofs.Door.{rows-door}
 use Rattle.ledger.proofs.View.{sound-view}
+
+-- row 1
+pub unsound-refused : (l : Ledger) → isSound l ≡ false → (q : Request) → refusedWith 1 l ≡ judged l q
+unfolding judged
+unsound-refused l e q = rw e
 
 -- rows 2 and 3 of a sound ledger
 module _ (l : Ledger) (e : isSound l ≡ true) where
@@ -36,6 +41,11 @@ module _ (l : Ledger) (e : isSound l ≡ true) where
       → verdict limits (sound limits) (view l) (Asked t k names) ≡ 3
   unfolding verdict firstOf
   verdict-3 t k names f g = rw (sound-view l e) (ap firstOf (rows-door limits (view l) t k names) ∙ rw (f, g))
+
+  -- bytes that are no step
+  pub unreadable-refused : refusedWith 2 l ≡ judged l Unreadable
+  unfolding judged ruled
+  unreadable-refused = rw (e, verdict-2 Unreadable refl)
 
 -- a request that a record can say has its list in its places, and is well formed
 module _ (p : Step) where
@@ -63,7 +73,7 @@ passed-all false b c e = absurd (omega (arith, e))
 module _ (l : Ledger) (p : Step) where
   -- turned away by one of them
   pub door-refused : (doorOf l p ≡ 0 → ⊥) → refusedWith (doorOf l p) l ≡ stepOf l p
-  unfolding stepOf ruled
+  unfolding judged ruled
   door-refused shut = ⊎-elim in-order unsound (decide (isSound l))
     where
       unsound : isSound l ≡ false → refusedWith (doorOf l p) l ≡ stepOf l p
@@ -102,7 +112,7 @@ module _ (l : Ledger) (p : Step) where
     door-admits = record { isSound = door-sound; formed = said p door-said .1; onTime = ltb-false _ _ door-time }
 
     pub door-rules : ruled (Asked (p .time) (p .kind) (namesOf (p .list))) l ≡ stepOf l p
-    unfolding stepOf
+    unfolding judged
     door-rules = rw (door-sound, door-padded)
 
 -- beside a kind that has none there is no list

@@ -3,7 +3,7 @@
 -- Assumes nothing.
 use mathlib.Core.Path.{_≡_}
 use mathlib.Core.Bool.{true, cond}
-use mathlib.Core.List.{List, [], _∷_, map}
+use mathlib.Core.List.{List, [], _∷_}
 use Prim.Native.Nat.{ℕ}
 use lib.Dec.{leb}
 use Rattle.rules.specs.declared.Step.{Step}
@@ -11,39 +11,35 @@ use Rattle.rules.specs.declared.Verdict.{Verdict}
 use Rattle.rules.specs.Limits.{limits}
 use Rattle.rules.specs.State.{fresh}
 use Rattle.rules.specs.Sound.{sound}
-use Rattle.rules.specs.Request.{Ask}
+use Rattle.rules.specs.Request.{Request, Ask}
 use Rattle.rules.specs.Step.{sizeOf, reply}
 use Rattle.rules.specs.Typed.{requestOf, verdictOf}
 use Rattle.rules.specs.Demand3.{ledgerOf, Whole}
 use Rattle.ledger.specs.declared.Ledger.{Ledger}
 use Rattle.ledger.specs.Ledger.{lay, isSound}
-use Rattle.ledger.specs.Step.{stepOf}
+use Rattle.ledger.specs.Step.{judged}
 
--- a step, any value of it, and the room for its verdict
-pub record TypedAsk : Type 0 where
-  pub step : Step
-  pub room : ℕ
-
-abbrev pub askOf : TypedAsk → Ask
-askOf a = record { request = requestOf (a .step); room = a .room }
+-- a step, any value of it, and the room for its verdict; a record's request is what its bytes say (crate replay)
+abbrev pub asked : Step → ℕ → Ask
+asked p room = record { request = requestOf p; room = room }
 
 -- the bytes of a verdict
 abbrev pub verdictSize : Verdict → ℕ
 verdictSize v = sizeOf (v .answer) (v .list .count)
 
 -- the next ledger: a verdict that does not fit leaves the ledger as it was
-abbrev pub keptAfter : Ledger → TypedAsk → Ledger
-keptAfter l a = cond (leb (verdictSize (stepOf l (a .step) .verdict)) (a .room)) (stepOf l (a .step) .ledger) l
+abbrev pub keptAfter : Ledger → Ask → Ledger
+keptAfter l a = cond (leb (verdictSize (judged l (a .request) .verdict)) (a .room)) (judged l (a .request) .ledger) l
 
-unfoldable pub ledgerAfter : Ledger → List TypedAsk → Ledger
+unfoldable pub ledgerAfter : Ledger → List Ask → Ledger
 ledgerAfter l [] = l
 ledgerAfter l (a ∷ asks) = ledgerAfter (keptAfter l a) asks
 
-pub record Delivered (asks : List TypedAsk) : Type 0 where
+pub record Delivered (asks : List Ask) : Type 0 where
   -- the ledger is the layout of the rules' state, and sound: row 1 never applies to it
-  pub laid : ledgerAfter (lay fresh) asks ≡ lay (ledgerOf (map askOf asks))
+  pub laid : ledgerAfter (lay fresh) asks ≡ lay (ledgerOf asks)
   pub isSound : isSound (ledgerAfter (lay fresh) asks) ≡ true
   -- every verdict is the one that the rules give
-  pub answers : (p : Step) → stepOf (ledgerAfter (lay fresh) asks) p .verdict ≡ verdictOf (reply limits (sound limits) (ledgerOf (map askOf asks)) (requestOf p))
+  pub answers : (q : Request) → judged (ledgerAfter (lay fresh) asks) q .verdict ≡ verdictOf (reply limits (sound limits) (ledgerOf asks) q)
   -- demand 3 of that state and the history
-  pub whole : Whole (map askOf asks)
+  pub whole : Whole asks

@@ -4,3 +4,4 @@ pub mod Rows
 pub mod Step
 pub mod SoundLaw
 pub mod Demand3
+pub mod Depot

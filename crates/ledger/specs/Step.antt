@@ -37,9 +37,13 @@ ruledBy n q l = cond (eqb n 0) (answeredWith (granted q (view l)) (lay (effect q
 unfoldable pub ruled : Request → Ledger → StepAnswer
 ruled q l = ruledBy (verdict limits (sound limits) (view l) q) q l
 
--- a step on any ledger value: 1 where it is not sound
-unfoldable pub stepOf : Ledger → Step → StepAnswer
-stepOf l p = cond (isSound l) (ruled (requestOf p) l) (refusedWith 1 l)
+-- a request on any ledger value: 1 where the ledger is not sound
+unfoldable pub judged : Ledger → Request → StepAnswer
+judged l q = cond (isSound l) (ruled q l) (refusedWith 1 l)
+
+-- a step, any value of it
+abbrev pub stepOf : Ledger → Step → StepAnswer
+stepOf l p = judged l (requestOf p)
 
 -- rows 1 to 3, which every kind has first
 abbrev pub doorOf : Ledger → Step → ℕ

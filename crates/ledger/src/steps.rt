@@ -6,7 +6,7 @@ ghost use Prim.Native.Nat.{ℕ, _≤_};
 ghost use lib.ListN.{length};
 ghost use Rattle.rules.specs.declared.Kind.the-variants.{Fence as FENCE, Put as PUT, Commit as COMMIT, Compact as COMPACT, Hold as HOLD, Renew as RENEW, Release as RELEASE, List as LIST, Look as LOOK, Collect as COLLECT};
 ghost use Rattle.rules.specs.declared.Role.{Role as Who};
-ghost use Rattle.rules.specs.Request.{Asked};
+ghost use Rattle.rules.specs.Request.{Asked, Unreadable};
 ghost use Rattle.rules.specs.Limits.{limits};
 ghost use Rattle.rules.specs.Step.{alone};
 ghost use Rattle.rules.specs.Table.{_if_, row15, firstOf};
@@ -15,7 +15,7 @@ ghost use Rattle.manifests.specs.Manifests.{layManifest};
 ghost use Rattle.rules.specs.Typed.{isPadded, namesOf, objectList, verdictOf};
 ghost use Rattle.ledger.specs.Ledger.{view, isSound};
 ghost use Rattle.ledger.specs.Rows.{rowBehind};
-ghost use Rattle.ledger.specs.Step.{Admitted, refusedWith, answeredWith, ruled, stepOf, doorOf};
+ghost use Rattle.ledger.specs.Step.{Admitted, refusedWith, answeredWith, ruled, judged, stepOf, doorOf};
 use crate::Ledger;
 use crate::StepAnswer;
 use crate::rows;
@@ -452,5 +452,15 @@ impl Ledger {
             return refused(row, self);
         }
         self.admitted(step)
+    }
+
+    // The verdict on bytes that are no step: row 1, else row 2.
+    pub fn refuse_unreadable(self) -> StepAnswer
+        ensures { λ r. ⌜ r ≡ judged self Unreadable ⌝ }
+    {
+        if !self.is_sound() {
+            return refused(1, self);
+        }
+        refused(2, self)
     }
 }

@@ -23,49 +23,8 @@ use Rattle.rules.specs.Table.{wellFormed}
 use Rattle.rules.specs.Request.{Asked, Unreadable}
 use Rattle.rules.specs.Typed.{padded, isPadded, nameList, namesOf, objectList, requestOf, canSay}
 use Rattle.rules.proofs.Lists.{and-both}
-use Rattle.rules.proofs.Typed.{padded-room}
+use Rattle.rules.proofs.Typed.{padded-room, padded-over, padded-take, padded-said}
 use Rattle.records.proofs.Places.{some-list}
-
--- ---- zeros
-
-take-zeros : (m k : ℕ) → take {A = ℕ} m (replicate (k + m) 0) ≡ replicate m 0
-take-zeros m k = rw (add-comm k m, ← replicate-append-replicate {A = ℕ} m k 0) (take-at (replicate m 0) (replicate k 0) m (length-replicate m 0))
-
-drop-zeros : (k m : ℕ) → drop {A = ℕ} k (replicate (k + m) 0) ≡ replicate m 0
-drop-zeros k m = rw (← replicate-append-replicate {A = ℕ} k m 0) (drop-at (replicate k 0) (replicate m 0) k (length-replicate k 0))
-
-all-zeros : (m : ℕ) → all (eqb 0) (replicate m 0) ≡ true
-unfolding all
-all-zeros zero = refl
-all-zeros (suc m) = all-zeros m
-
--- ---- a list in n places
-
-padded-sum : (l : List ℕ) (m : ℕ) → padded (length l + m) l ≡ l ++ replicate m 0
-padded-sum l m = take-append-add l (replicate (length l + m) 0) m ∙ ap (λ (z : List ℕ). l ++ z) (take-zeros m (length l))
-
-module _ (n : ℕ) (l : List ℕ) (short : length l ≤ n) where
-  sum : n ≡ length l + (n - length l)
-  sum = omega arith
-
-  padded-is : padded n l ≡ l ++ replicate (n - length l) 0
-  padded-is = ap (λ (k : ℕ). padded k l) sum ∙ padded-sum l (n - length l)
-
-  -- as a list laid over zeros stands there
-  pub padded-over : l ++ drop (length l) (replicate n 0) ≡ padded n l
-  padded-over =
-      ap (λ (k : ℕ). l ++ drop (length l) (replicate k 0)) sum ∙ ap (λ (z : List ℕ). l ++ z) (drop-zeros (length l) (n - length l)) ∙ sym padded-is
-
-  pub padded-take : take (length l) (padded n l) ≡ l
-  padded-take = rw padded-is (take-append-seam l (replicate (n - length l) 0))
-
-  pub padded-said : isPadded (length l) (padded n l) ≡ true
-  unfolding isPadded
-  padded-said =
-      rw padded-is
-      (and-both (leb (length l) (length (l ++ replicate (n - length l) 0))) (all (eqb 0) (drop (length l) (l ++ replicate (n - length l) 0)))
-      (le-leb (length l) (length (l ++ replicate (n - length l) 0)) (omega (arith, length-append l (replicate (n - length l) 0))))
-      (rw drop-append-seam (all-zeros (n - length l))))
 
 -- words read over zeros
 module _ (count : ℕ) (w s : List ℕ) (e : w ≡ wordsOf count s) where
