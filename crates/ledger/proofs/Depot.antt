@@ -3,16 +3,13 @@
 use mathlib.Core.Path.{_≡_, refl, sym, ap, subst, _∙_}
 use mathlib.Core.Bool.{Bool, true, false, _&&_, false≢true}
 use mathlib.Core.List.{List, [], _∷_}
-use Prim.Native.Nat.{ℕ}
 use lib.Dec.{leb}
 use lib.ListN.{length}
 use borrow.Author.Tests.{leb-true}
-use Rattle.rules.specs.declared.Kind.{Kind}
 use Rattle.rules.specs.Limits.{limits}
 use Rattle.rules.specs.State.{State, fresh}
 use Rattle.rules.specs.Sound.{sound}
 use Rattle.rules.specs.Request.{Request, Asked, Unreadable, Ask}
-use Rattle.rules.specs.Step.{reply, next}
 use Rattle.rules.specs.Typed.{requestOf, verdictOf}
 use Rattle.rules.specs.Depot.{Case, starred, runs, week}
 use Rattle.rules.specs.Depot as rules
@@ -21,7 +18,6 @@ use Rattle.rules.proofs.Typed.{padded-take, padded-said}
 use Rattle.rules.proofs.Soundness.{sound-fresh, next-sound}
 use Rattle.rules.proofs.Depot.{week-holds}
 use Rattle.ledger.specs.declared.Ledger.{Ledger}
-use Rattle.ledger.specs.declared.StepAnswer.{StepAnswer}
 use Rattle.ledger.specs.Ledger.{lay}
 use Rattle.ledger.specs.Step.{judged}
 use Rattle.ledger.specs.Demand3.{keptAfter}
@@ -56,10 +52,11 @@ holds-laid : (s : State) → sound limits s ≡ true → (cases : List Case) →
 unfolding Holds rules.Holds allFit
 holds-laid s e [] f h = tt
 holds-laid s e (starred q r ∷ cases) f h =
-    let first = and-left (fits q) (allFit cases) f in
-    ( ap (λ (x : Request). judged (lay s) x .verdict) (typed-asks q first) ∙ verdict-laid s e q ∙ ap verdictOf (h .0)
-    , subst (λ (l : Ledger). Holds l cases) (sym (next-after s e q first))
-      (holds-laid (rules.after s q) (next-sound limits (sound limits) s (roomy q) e) cases (and-right (fits q) (allFit cases) f) (h .1)) )
+    let first = and-left (fits q) (allFit cases) f in (
+      ap (λ (x : Request). judged (lay s) x .verdict) (typed-asks q first) ∙ verdict-laid s e q ∙ ap verdictOf (h .0),
+      subst (λ (l : Ledger). Holds l cases) (sym (next-after s e q first))
+          (holds-laid (rules.after s q) (next-sound limits (sound limits) s (roomy q) e) cases (and-right (fits q) (allFit cases) f) (h .1)),
+    )
 holds-laid s e (runs q ∷ cases) f h =
     let first = and-left (fits q) (allFit cases) f in
     subst (λ (l : Ledger). Holds l cases) (sym (next-after s e q first))

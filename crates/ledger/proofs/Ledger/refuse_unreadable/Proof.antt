@@ -1,6 +1,6 @@
 -- `Ledger::refuse_unreadable` meets its contract.
 -- Assumes nothing.
-use mathlib.Core.Path.{_≡_, sym, _∙_}
+use mathlib.Core.Path.{sym, _∙_}
 use borrow.Author.Tests.{not-true, not-false}
 use Rattle.ledger.proofs.Whole.{unsound-refused, unreadable-refused}
 use Rattle.ledger.proofs.Ledger.refuse_unreadable.Statement.{statement}
