@@ -1,0 +1,3 @@
+pub mod Front
+pub mod Replay
+pub mod Demand3
