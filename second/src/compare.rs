@@ -6,6 +6,7 @@
 
 pub mod ledgers;
 pub mod records;
+pub mod traces;
 
 use std::collections::BTreeMap;
 
@@ -15,6 +16,16 @@ use crate::random::Random;
 
 /// How often each answer was given.
 pub type Answers = BTreeMap<u64, usize>;
+
+fn count(answers: &mut Answers, answer: u64) {
+    *answers.entry(answer).or_default() += 1;
+}
+
+fn add(sum: &mut Answers, other: Answers) {
+    for (answer, times) in other {
+        *sum.entry(answer).or_default() += times;
+    }
+}
 
 /// Bytes or numbers on either side of the lent ones, which no call may touch.
 const MARGIN: usize = 8;

@@ -157,10 +157,14 @@ pub fn trace(random: &mut Random, steps: &[Step]) -> Vec<u8> {
     for step in steps {
         match write_step(step) {
             Some(bytes) => trace.extend(bytes),
-            None => trace.extend(broken_record(random)),
+            None => {
+                let record = record(random);
+                trace.extend(broken(random, &record));
+            }
         }
         if random.once_in(20) {
-            trace.extend(broken_record(random));
+            let record = record(random);
+            trace.extend(broken(random, &record));
         }
     }
     if random.once_in(3) {
@@ -170,9 +174,9 @@ pub fn trace(random: &mut Random, steps: &[Step]) -> Vec<u8> {
     trace
 }
 
-fn broken_record(random: &mut Random) -> Vec<u8> {
-    let record = record(random);
-    let bytes = with_length(&damage(random, &record));
+/// The record damaged in a way that keeps the outer length true.
+pub fn broken(random: &mut Random, record: &[u8]) -> Vec<u8> {
+    let bytes = with_length(&damage(random, record));
     // Fewer bytes than a header would misplace every record behind them.
     if bytes.len() < 3 {
         return vec![0xEE, 0, 0];

@@ -2,6 +2,7 @@
 //! document alone, with which the proved library is compared.
 
 pub mod compare;
+pub mod depot;
 pub mod generate;
 pub mod ledger;
 pub mod names;
@@ -11,3 +12,4 @@ pub mod random;
 pub mod raw;
 pub mod records;
 pub mod run;
+pub mod samples;

@@ -50,6 +50,24 @@ extern "C" {
         objects: *mut u64,
         places: usize,
     ) -> u64;
+    fn cuudhaqil_run(
+        trace: *const u8,
+        n: usize,
+        out: *mut u8,
+        room: usize,
+        counts: *mut u64,
+        len: usize,
+    ) -> u64;
+    fn cuudhaqil_run_on(
+        ledger: *mut u64,
+        size: usize,
+        trace: *const u8,
+        n: usize,
+        out: *mut u8,
+        room: usize,
+        counts: *mut u64,
+        len: usize,
+    ) -> u64;
 }
 
 pub fn read_name(name: &[u8], number: &mut [u64]) -> u64 {
@@ -117,4 +135,21 @@ pub fn step(
     unsafe {
         cuudhaqil_step(ledger, size, numbers, count, list, names, verdict, answers, objects, places)
     }
+}
+
+pub fn run(trace: &[u8], out: &mut [u8], counts: &mut [u64]) -> u64 {
+    let (n, room, len) = (trace.len(), out.len(), counts.len());
+    let (out, counts) = (out.as_mut_ptr(), counts.as_mut_ptr());
+    // SAFETY: the pointers come from slices of the lengths given, and those
+    // that may be written do not overlap.
+    unsafe { cuudhaqil_run(trace.as_ptr(), n, out, room, counts, len) }
+}
+
+pub fn run_on(ledger: &mut [u64], trace: &[u8], out: &mut [u8], counts: &mut [u64]) -> u64 {
+    let (size, n, room, len) = (ledger.len(), trace.len(), out.len(), counts.len());
+    let (ledger, trace) = (ledger.as_mut_ptr(), trace.as_ptr());
+    let (out, counts) = (out.as_mut_ptr(), counts.as_mut_ptr());
+    // SAFETY: the pointers come from slices of the lengths given, and those
+    // that may be written do not overlap.
+    unsafe { cuudhaqil_run_on(ledger, size, trace, n, out, room, counts, len) }
 }

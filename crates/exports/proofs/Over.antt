@@ -20,3 +20,9 @@ over-next from to i h room = rw add-one (over-suc from to i h room)
 -- over no more than their own room they are all there is
 pub over-all : (from to : List ℕ) → length to ≤ length from → over from to ≡ from
 over-all from to h = rw (drop-of-length-le to h, append-nil)
+
+-- two numbers, one after the other
+pub over-two : (a b : ℕ) (to : List ℕ) → 2 ≤ length to → over (a ∷ b ∷ []) to ≡ set (set to 0 a) 1 b
+over-two a b [] h = absurd (omega arith)
+over-two a b (x ∷ []) h = absurd (omega arith)
+over-two a b (x ∷ y ∷ to) h = refl

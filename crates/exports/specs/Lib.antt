@@ -1,3 +1,4 @@
 pub mod Names
 pub mod Codec
 pub mod Ledgers
+pub mod Runs

@@ -156,7 +156,7 @@ fn hold_items(v: &[u64]) -> [Hold; 8]
 }
 
 // The ledger that the numbers say, of any value.
-fn ledger_from(v: &[u64]) -> Ledger
+pub fn ledger_from(v: &[u64]) -> Ledger
     requires { ⌜ ledgerSize ≤ length (now v) ⌝ }
     ensures { λ r. ⌜ r ≡ ledgerFrom (now (v .entry)) ⌝ }
 {
@@ -269,7 +269,7 @@ fn put_holds(items: [Hold; 8], out: &mut [u64])
 }
 
 // The ledger's numbers, in as many places as they are.
-fn put_ledger(ledger: Ledger, out: &mut [u64])
+pub fn put_ledger(ledger: Ledger, out: &mut [u64])
     requires { ⌜ length (now out) ≡ ledgerSize ⌝ }
     ensures { λ _. ⌜ now (out .exit) ≡ ledgerNumbers ledger ⌝ }
 {

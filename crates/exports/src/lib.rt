@@ -2,6 +2,7 @@
 pub mod codec;
 pub mod ledgers;
 pub mod names;
+pub mod runs;
 
 use rules::Answer;
 

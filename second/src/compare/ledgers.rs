@@ -7,7 +7,7 @@
 use crate::compare::records::{
     kind_of, lent, list_of, put_verdict, replacement, step_numbers, STEP, VERDICT,
 };
-use crate::compare::{Answers, MARGIN};
+use crate::compare::{add, count, Answers, MARGIN};
 use crate::generate::guided::Guide;
 use crate::ledger::{Ledger, Manifest, HOLDS, MANIFESTS};
 use crate::random::Random;
@@ -144,10 +144,6 @@ pub struct Counts {
     pub stored: Answers,
 }
 
-fn count(answers: &mut Answers, key: u64) {
-    *answers.entry(key).or_default() += 1;
-}
-
 impl Counts {
     pub fn add(&mut self, other: Counts) {
         self.steps += other.steps;
@@ -159,9 +155,7 @@ impl Counts {
             (&mut self.stored, other.stored),
         ];
         for (sum, counts) in pairs {
-            for (key, times) in counts {
-                *sum.entry(key).or_default() += times;
-            }
+            add(sum, counts);
         }
     }
 }
@@ -347,7 +341,7 @@ fn asked(random: &mut Random, step: &Step, course: Course) -> (Vec<u64>, Vec<u64
 }
 
 /// A sound ledger with one manifest, whose numbers are near 2^64-1.
-fn high(random: &mut Random) -> Ledger {
+pub fn high(random: &mut Random) -> Ledger {
     let mut near = |below: u64| u64::MAX - random.below(below);
     let (clock, top, number) = (near(2_000), near(1_000), near(300));
     let writer = match near(3) % 3 {
@@ -364,7 +358,7 @@ fn high(random: &mut Random) -> Ledger {
 }
 
 /// Changes one number, or swaps two, or two places.
-fn damage(random: &mut Random, numbers: &mut [u64]) {
+pub fn damage(random: &mut Random, numbers: &mut [u64]) {
     let place = damaged_place(random, numbers);
     let other = damaged_place(random, numbers);
     match random.below(8) {

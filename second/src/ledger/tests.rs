@@ -1,6 +1,7 @@
 //! The depot week, each row of the table, and the errors met before.
 
 use super::*;
+use crate::depot;
 use crate::raw::{from_raw, raw, RawManifest};
 
 const W: Role = Role::Writer;
@@ -71,30 +72,11 @@ const DONE: Verdict = Verdict::Done;
 
 #[test]
 fn depot_week() {
-    let mut l = Ledger::fresh();
-    assert_eq!(l.at(10, fence(W, 1)), Verdict::Epoch(1)); // 1
-    assert_eq!(l.at(10, put(W, 1, 1, 978)), DONE); // 2
-    assert_eq!(l.at(10, put(W, 1, 2, 756)), DONE); // 3
-    assert_eq!(l.commit(11, 1, 2, &[1, 2]), DONE); // 4
-    assert_eq!(l.at(11, look(985, 0)), refused(16)); // 5
-    assert_eq!(l.at(12, hold(7, 2, 20)), DONE); // 6
-    assert_eq!(l.at(12, fence(W, 2)), refused(6)); // 7
-    assert_eq!(l.at(12, fence(W, 3)), Verdict::Epoch(2)); // 8
-    assert_eq!(l.at(13, put(W, 1, 3, 978)), DONE); // 9
-    assert_eq!(l.commit(13, 1, 4, &[3]), refused(5)); // 10
-    assert_eq!(l.at(14, put(W, 2, 4, 978)), DONE); // 11
-    assert_eq!(l.at(14, Kind::Collect), collected(&[3])); // 12
-    assert_eq!(l.commit(15, 2, 4, &[2, 4]), DONE); // 13
-    assert_eq!(l.at(20, Kind::Collect), collected(&[])); // 14
-    assert_eq!(l.at(21, Kind::Collect), collected(&[1])); // 15
-    assert_eq!(l.at(21, look(978, 7)), refused(15)); // 16
-    assert_eq!(l.at(21, put(W, 2, 3, 978)), refused(10)); // 17
-    assert_eq!(l.at(20, list(0)), refused(3)); // 18
-    assert_eq!(l.at(22, fence(C, 5)), Verdict::Epoch(1)); // 19
-    assert_eq!(l.at(22, put(C, 1, 5, 978)), DONE);
-    assert_eq!(l.at(22, compact(1, 6, 5)), DONE);
-    assert_eq!(l.at(22, list(0)), listed(6, &[2, 5]));
-    assert_eq!(l.at(22, Kind::Collect), collected(&[4]));
+    let (mut ledger, week) = (Ledger::fresh(), depot::week());
+    assert_eq!(week.len(), 23);
+    for (step, verdict) in week {
+        assert_eq!(ledger.checked(step.time, step.kind, &step.list), verdict, "{step:?}");
+    }
 }
 
 /// Writer and compactor at epoch 1, current manifest 2, clock 10.

@@ -1,0 +1,20 @@
+//! Writes the stored traces: `write_samples EXAMPLES JUDGED`, two folders.
+
+use std::path::Path;
+use std::{env, fs, io};
+
+use second::samples::{examples, judged, File};
+
+fn write(folder: &str, files: Vec<File>) -> io::Result<()> {
+    fs::create_dir_all(folder)?;
+    files.into_iter().try_for_each(|(name, bytes)| fs::write(Path::new(folder).join(name), bytes))
+}
+
+fn main() -> io::Result<()> {
+    let arguments: Vec<String> = env::args().skip(1).collect();
+    let [example_folder, judged_folder] = &arguments[..] else {
+        return Err(io::Error::other("usage: write_samples EXAMPLES JUDGED"));
+    };
+    write(example_folder, examples())?;
+    write(judged_folder, judged())
+}

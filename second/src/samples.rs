@@ -1,0 +1,109 @@
+//! The stored traces: the examples', and the inputs of the program `judge`
+//! with what it prints.
+
+use crate::depot;
+use crate::generate::guided::Guide;
+use crate::ledger::Ledger;
+use crate::random::Random;
+use crate::records::{next_record, write_step, Next};
+use crate::run::{judge, LONGEST_TRACE};
+
+/// A file's name and contents.
+pub type File = (String, Vec<u8>);
+
+/// With it the longest trace is given every verdict but 1.
+const SEED: u64 = 20_240_659;
+
+pub fn examples() -> Vec<File> {
+    vec![("depot_week.trace".to_string(), depot::trace())]
+}
+
+/// Each input as NAME.stdin and what the program prints as NAME.stdout.
+pub fn judged() -> Vec<File> {
+    let longest = longest();
+    let too_long = [&longest[..], &[0]].concat();
+    let inputs =
+        [("week", depot::trace()), ("torn", torn()), ("longest", longest), ("too_long", too_long)];
+    let files = inputs.into_iter().flat_map(|(name, input)| {
+        let printed = judge(&input).into_bytes();
+        [(format!("{name}.stdin"), input), (format!("{name}.stdout"), printed)]
+    });
+    files.collect()
+}
+
+/// The first five records of the week, and all but one byte of the sixth.
+fn torn() -> Vec<u8> {
+    let mut trace = depot::trace();
+    let mut end = 0;
+    for _ in 0..6 {
+        if let Next::Record(length) = next_record(&trace[end..]) {
+            end += length;
+        }
+    }
+    trace.truncate(end - 1);
+    trace
+}
+
+/// As many bytes as the program takes, of guided steps most of which are
+/// accepted; the last record is torn unless it ends there by chance.
+fn longest() -> Vec<u8> {
+    let (mut random, mut guide) = (Random::new(SEED), Guide::new(SEED + 1));
+    let (mut ledger, mut trace) = (Ledger::fresh(), Vec::new());
+    while trace.len() < LONGEST_TRACE {
+        let step = guide.next(&ledger);
+        let accepted = ledger.step(&step).code() == 0;
+        if !accepted && random.below(8) != 0 {
+            continue;
+        }
+        // A step that no reader takes stands as a record of no known kind.
+        trace.extend(write_step(&step).unwrap_or(vec![0xEE, 0, 0]));
+    }
+    trace.truncate(LONGEST_TRACE);
+    trace
+}
+
+#[cfg(test)]
+mod tests {
+    use super::*;
+    use crate::records::LAST_CODE;
+    use crate::run::run;
+
+    #[test]
+    fn the_longest_trace_has_every_kind_accepted_and_every_verdict() {
+        let trace = longest();
+        assert_eq!(trace.len(), LONGEST_TRACE);
+        let done = run(&Ledger::fresh(), &trace, usize::MAX);
+        let (mut rest, mut out) = (&trace[..], &done.output[..]);
+        let (mut codes, mut accepted) = ([0; LAST_CODE as usize + 1], [0; 10]);
+        while let (Next::Record(step), Next::Record(verdict)) =
+            (next_record(rest), next_record(out))
+        {
+            let code = usize::from(out[6]);
+            codes[code] += 1;
+            if code == 0 {
+                accepted[usize::from(rest[0]) - 0x10] += 1;
+            }
+            (rest, out) = (&rest[step..], &out[verdict..]);
+        }
+        println!("by row {codes:?}, accepted {accepted:?}, {} bytes torn", rest.len());
+        assert!(accepted.iter().all(|times| *times >= 30), "{accepted:?}");
+        let mut rows = codes.iter().enumerate();
+        assert!(rows.all(|(row, times)| (row == 1) == (*times == 0)), "{codes:?}");
+        assert!(codes[0] > 5 * codes[1..].iter().sum::<usize>(), "{codes:?}");
+    }
+
+    #[test]
+    fn the_program_prints_each_code_and_the_bytes_unread() {
+        let files = judged();
+        let printed = |name: &str| {
+            let file = files.iter().find(|file| file.0 == name).expect("it is written");
+            String::from_utf8(file.1.clone()).expect("it is text")
+        };
+        let codes: Vec<String> =
+            depot::week().iter().map(|(_, verdict)| format!("{}\n", verdict.code())).collect();
+        assert_eq!(printed("week.stdout"), codes.concat() + "rest 0\n");
+        assert_eq!(printed("torn.stdout"), "0\n0\n0\n0\n16\nrest 46\n");
+        assert_eq!(printed("too_long.stdout"), "too long\n");
+        assert!(printed("longest.stdout").lines().count() > 1_000);
+    }
+}

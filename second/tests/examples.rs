@@ -1,0 +1,53 @@
+//! The examples are compiled as their first lines say, and print what is
+//! stored.
+
+use std::fs;
+use std::path::{Path, PathBuf};
+use std::process::Command;
+
+const C: &str = "cc -O2 -Wall -Wextra -Werror -Iinclude examples/depot_week.c \
+                 -Ltarget/staticlib -lexports";
+const RUST: &str = "rustc --edition 2021 -O examples/depot_week.rs -L target/staticlib \
+                    -l static=exports";
+
+fn root() -> PathBuf {
+    Path::new(env!("CARGO_MANIFEST_DIR")).join("..")
+}
+
+/// The program that the command compiles.
+fn compiled(command: &str, name: &str) -> PathBuf {
+    let program = Path::new(env!("CARGO_TARGET_TMPDIR")).join(name);
+    let mut words = command.split(' ');
+    let mut compiler = Command::new(words.next().expect("the compiler is the first word"));
+    compiler.args(words).arg("-o").arg(&program).current_dir(root());
+    let status = compiler.status().unwrap_or_else(|error| panic!("{command}: {error}"));
+    assert!(status.success(), "{command}: {status}");
+    program
+}
+
+/// What the program prints for a trace, which it must accept.
+fn printed(program: &Path, trace: &Path) -> String {
+    let done = Command::new(program).arg(trace).output().expect("it was compiled");
+    assert!(done.status.success(), "{}: {done:?}", trace.display());
+    String::from_utf8(done.stdout).expect("it is text")
+}
+
+#[test]
+fn both_examples_print_the_stored_week() {
+    let (c, rust) = (compiled(C, "depot_week_c"), compiled(RUST, "depot_week_rust"));
+    let stored = fs::read_to_string(root().join("examples/depot_week.out")).expect("it is stored");
+    let trace = root().join("examples/depot_week.trace");
+    assert_eq!(printed(&c, &trace), stored);
+    assert_eq!(printed(&rust, &trace), stored);
+
+    // The trace cut anywhere ends whole or torn, and an empty one is a trace.
+    let bytes = fs::read(&trace).expect("it is stored");
+    let cut = Path::new(env!("CARGO_TARGET_TMPDIR")).join("cut.trace");
+    for length in [0, 1, 29, 30, bytes.len() - 1] {
+        fs::write(&cut, &bytes[..length]).expect("the folder is cargo's");
+        let words = printed(&c, &cut);
+        let end = if [0, 29].contains(&length) { "whole: " } else { "torn: " };
+        assert!(words.lines().last().is_some_and(|line| line.starts_with(end)), "{words}");
+        assert_eq!(words, printed(&rust, &cut));
+    }
+}

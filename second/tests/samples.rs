@@ -1,0 +1,26 @@
+//! The stored traces are those that the second program writes, byte for byte:
+//! `cargo run --bin write_samples -- ../examples ../judge_data` writes them.
+
+use std::fs;
+use std::path::Path;
+
+use second::samples::{examples, judged, File};
+
+fn stored(folder: &str, files: Vec<File>) {
+    let folder = Path::new(env!("CARGO_MANIFEST_DIR")).join(folder);
+    for (name, bytes) in files {
+        let path = folder.join(name);
+        let found = fs::read(&path).unwrap_or_else(|error| panic!("{}: {error}", path.display()));
+        assert!(found == bytes, "{} differs", path.display());
+    }
+}
+
+#[test]
+fn the_examples_are_stored() {
+    stored("../examples", examples());
+}
+
+#[test]
+fn the_program_s_inputs_and_outputs_are_stored() {
+    stored("../judge_data", judged());
+}
