@@ -2,14 +2,17 @@
 -- Assumes nothing.
 use mathlib.Core.Path.{_≡_, refl, sym, ap, subst, _∙_}
 use mathlib.Core.Bool.{Bool, true, false, cond}
-use mathlib.Core.List.{List}
+use mathlib.Core.List.{List, [], _∷_}
 use Prim.Native.Nat.{ℕ, _≤_}
+use types.Run.{OneOf, miss}
+use denote.Enum.Declared.{tagOf}
 use lib.Dec.{ltb}
 use lib.ListN.{length}
 use Rattle.fields.specs.declared.Next.the-variants.{Record}
 use Rattle.fields.specs.Fields.{over, nextOf}
 use Rattle.records.specs.declared.Write.{Write}
 use Rattle.records.specs.declared.Write.the-variants.{Written, Malformed, Full as Short}
+use Rattle.records.proofs.Write as write
 use Rattle.records.specs.Steps.{decodeStep}
 use Rattle.records.specs.Writing.{Writing, verdictWriting}
 use Rattle.ledger.specs.declared.Ledger.{Ledger}
@@ -24,6 +27,13 @@ abbrev pub steppedBy : Ledger → List ℕ → StepAnswer → Write → List ℕ
 steppedBy l bytes a (Written k) out = record { answer = record { front = Judged (length bytes) k; ledger = a .ledger }; buffer = out }
 steppedBy l bytes a Malformed out = unchanged Full l out
 steppedBy l bytes a Short out = unchanged Full l out
+
+-- a verdict that was not written left all as it was
+pub unwritten : (l : Ledger) (bytes : List ℕ) (a : StepAnswer) (w : Write) (out : List ℕ) → OneOf (1 ∷ 2 ∷ []) (tagOf write.the-type w)
+    → steppedBy l bytes a w out ≡ unchanged Full l out
+unwritten l bytes a (Written k) out h = absurd (miss (1 ∷ 2 ∷ []) 0 tt h)
+unwritten l bytes a Malformed out h = refl
+unwritten l bytes a Short out h = refl
 
 module _ (l : Ledger) (bytes out : List ℕ) where
   by-room : (b : Bool) (v : List ℕ) → cond b (unchanged Full l out) (record { answer = record { front = Judged (length bytes) (length v); ledger = answerTo l bytes .ledger }; buffer = over v out })

@@ -57,28 +57,24 @@ fn answer_to(ledger: Ledger, bytes: &[u8]) -> StepAnswer
 }
 
 // Judges a record; its verdict goes to the start of `out`.
-fn judge_record(ledger: Ledger, bytes: &[u8], out: &mut [u8]) -> Stepped
-    ensures { λ r. ⌜ recordStep ledger (now (bytes .entry)) (now (out .entry)) ≡ record { answer = r; buffer = now (out .exit) } ⌝ }
+fn judge_record(before: Ledger, bytes: &[u8], out: &mut [u8]) -> Stepped
+    ensures { λ r. ⌜ recordStep before (now (bytes .entry)) (now (out .entry)) ≡ record { answer = r; buffer = now (out .exit) } ⌝ }
 {
-    let answer = answer_to(ledger, bytes);
+    let answer = answer_to(before, bytes);
     let verdict = answer.verdict;
     let next = answer.ledger;
     let read = bytes.len();
     let write = records::write_verdict(verdict, out);
-    match write {
-        Write::Written(written) => Stepped {
-            front: Front::Judged { read, written },
-            ledger: next,
-        },
-        // a step's verdict is never malformed
-        Write::Malformed => Stepped {
+    // a step's verdict is never malformed: it has no room
+    let Write::Written(written) = write else {
+        return Stepped {
             front: Front::Full,
-            ledger,
-        },
-        Write::Full => Stepped {
-            front: Front::Full,
-            ledger,
-        },
+            ledger: before,
+        };
+    };
+    Stepped {
+        front: Front::Judged { read, written },
+        ledger: next,
     }
 }
 
