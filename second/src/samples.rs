@@ -18,17 +18,22 @@ pub fn examples() -> Vec<File> {
     vec![("depot_week.trace".to_string(), depot::trace())]
 }
 
-/// Each input as NAME.stdin and what the program prints as NAME.stdout.
+/// In the folder of each program crate its input and what it prints.
 pub fn judged() -> Vec<File> {
     let longest = longest();
     let too_long = [&longest[..], &[0]].concat();
-    let inputs =
-        [("week", depot::trace()), ("torn", torn()), ("longest", longest), ("too_long", too_long)];
-    let files = inputs.into_iter().flat_map(|(name, input)| {
-        let printed = judge(&input).into_bytes();
-        [(format!("{name}.stdin"), input), (format!("{name}.stdout"), printed)]
-    });
-    files.collect()
+    let inputs = [
+        ("judge", depot::trace()),
+        ("judge_torn", torn()),
+        ("judge_longest", longest),
+        ("judge_too_long", too_long),
+    ];
+    let mut files: Vec<File> = vec![("judge_empty/stdout".to_string(), judge(&[]).into_bytes())];
+    for (crate_name, input) in inputs {
+        files.push((format!("{crate_name}/stdout"), judge(&input).into_bytes()));
+        files.push((format!("{crate_name}/stdin"), input));
+    }
+    files
 }
 
 /// The first five records of the week, and all but one byte of the sixth.
@@ -101,9 +106,10 @@ mod tests {
         };
         let codes: Vec<String> =
             depot::week().iter().map(|(_, verdict)| format!("{}\n", verdict.code())).collect();
-        assert_eq!(printed("week.stdout"), codes.concat() + "rest 0\n");
-        assert_eq!(printed("torn.stdout"), "0\n0\n0\n0\n16\nrest 46\n");
-        assert_eq!(printed("too_long.stdout"), "too long\n");
-        assert!(printed("longest.stdout").lines().count() > 1_000);
+        assert_eq!(printed("judge/stdout"), codes.concat() + "rest 0\n");
+        assert_eq!(printed("judge_torn/stdout"), "0\n0\n0\n0\n16\nrest 46\n");
+        assert_eq!(printed("judge_empty/stdout"), "rest 0\n");
+        assert_eq!(printed("judge_too_long/stdout"), "too long\n");
+        assert!(printed("judge_longest/stdout").lines().count() > 1_000);
     }
 }

@@ -1,5 +1,5 @@
 //! The stored traces are those that the second program writes, byte for byte:
-//! `cargo run --bin write_samples -- ../examples ../judge_data` writes them.
+//! `cargo run --bin write_samples -- ../examples ../crates` writes them.
 
 use std::fs;
 use std::path::Path;
@@ -22,5 +22,5 @@ fn the_examples_are_stored() {
 
 #[test]
 fn the_program_s_inputs_and_outputs_are_stored() {
-    stored("../judge_data", judged());
+    stored("../crates", judged());
 }

@@ -19,12 +19,14 @@ use Rattle.rules.specs.Request.{Request}
 use Rattle.rules.specs.Sound.{sound}
 use Rattle.rules.specs.Step.{Reply, alone, effect, granted, reply, sizeOf, verdict}
 use Rattle.rules.specs.Typed.{isPadded, objectsOf, padded, verdictOf}
-use Rattle.rules.proofs.Lists.{and-both, and-left, decide, true-false}
+use Rattle.rules.proofs.Lists.{and-both, and-left, and-right, decide, true-false}
 use Rattle.rules.proofs.Typed.{padded-room, padded-said, padded-take}
 use Rattle.fields.proofs.Fields.{length-field}
 use Rattle.records.specs.Format.{bytesOf}
+use Rattle.records.specs.Steps.{decodeStep}
 use Rattle.records.specs.Verdicts.{canAnswer, encodeVerdict, verdictFields, verdictFormed, verdictTag}
 use Rattle.records.proofs.Replies.{verdict-long}
+use Rattle.records.proofs.RoundTripVerdicts.{verdict-round-trip}
 use Rattle.records.proofs.WalkLaws.{length-bytes, total}
 use Rattle.ledger.specs.declared.Ledger.{Ledger}
 use Rattle.ledger.specs.Ledger.{lay, view, isSound}
@@ -32,6 +34,7 @@ use Rattle.ledger.specs.Step.{answeredWith, judged, refusedWith, ruled}
 use Rattle.ledger.specs.Demand3.{verdictSize}
 use Rattle.ledger.proofs.SoundLaw.{view-lay, lay-sound}
 use Rattle.ledger.proofs.Demand3.{verdict-laid}
+use Rattle.replay.specs.Front.{answerBytes, verdictBytes}
 use Rattle.replay.proofs.Replies.{Formed, refused-formed, reply-formed}
 
 -- a reply that is well formed, in its places
@@ -103,3 +106,10 @@ laid-bytes s e q =
     let r = reply limits (sound limits) s q in
     let formed : Formed r = ap (λ (t : State). verdictFormed (reply limits (sound limits) t q .answer) (reply limits (sound limits) t q .list)) (sym (view-lay s)) ∙ reply-formed (lay s) (lay-sound s e) q in
     ap (λ (v : Verdict). encodeVerdict (v .answer) (objectsOf (v .list))) (verdict-laid s e q) ∙ ap (encodeVerdict (r .answer)) (placed-list r formed)
+
+-- "The longest verdict is 522 bytes"
+pub answer-fits : (l : Ledger) (bytes : List ℕ) → length (answerBytes l bytes) ≤ 522
+answer-fits l bytes = fits (judged l (decodeStep bytes) .verdict) (can-answer l (decodeStep bytes))
+  where
+    fits : (v : Verdict) → canAnswer v ≡ true → length (verdictBytes v) ≤ 522
+    fits v e = verdict-round-trip .longest (v .answer) (objectsOf (v .list)) (and-right (isPadded (v .list .count) (v .list .objects)) _ e)

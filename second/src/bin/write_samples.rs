@@ -1,4 +1,4 @@
-//! Writes the stored traces: `write_samples EXAMPLES JUDGED`, two folders.
+//! Writes the stored traces: `write_samples EXAMPLES CRATES`, two folders.
 
 use std::path::Path;
 use std::{env, fs, io};
@@ -12,9 +12,9 @@ fn write(folder: &str, files: Vec<File>) -> io::Result<()> {
 
 fn main() -> io::Result<()> {
     let arguments: Vec<String> = env::args().skip(1).collect();
-    let [example_folder, judged_folder] = &arguments[..] else {
-        return Err(io::Error::other("usage: write_samples EXAMPLES JUDGED"));
+    let [example_folder, crate_folder] = &arguments[..] else {
+        return Err(io::Error::other("usage: write_samples EXAMPLES CRATES"));
     };
     write(example_folder, examples())?;
-    write(judged_folder, judged())
+    write(crate_folder, judged())
 }

@@ -1,0 +1,4 @@
+// The program `judge` on an empty trace.
+fn main() {
+    console::judge();
+}

@@ -1,0 +1,4 @@
+// The program `judge` on the longest trace, 65,536 bytes.
+fn main() {
+    console::judge();
+}

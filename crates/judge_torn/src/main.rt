@@ -1,0 +1,4 @@
+// The program `judge` on a trace that ends in a torn record.
+fn main() {
+    console::judge();
+}
