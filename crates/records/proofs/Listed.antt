@@ -3,13 +3,10 @@
 use mathlib.Core.Path.{_≡_, refl, sym, ap, _∙_}
 use mathlib.Core.Bool.{Bool, true, false, cond, and-false, false≢true}
 use mathlib.Core.List.{List, _++_}
-use Prim.Native.Nat.{ℕ, zero, suc, _+_, _-_, _≤_, _<_}
-use native.Mathlib.Nat.{add-comm}
+use Prim.Native.Nat.{ℕ, _≤_, _<_}
 use native.Mathlib.Omega.{arith}
-use lib.Dec.{leb, eqb}
-use lib.ListN.{length, take, drop, replicate, length-append, length-replicate, replicate-append-replicate}
-use lib.Seq.{take-at, drop-at, take-append-add, take-append-seam, drop-append-seam}
-use borrow.Author.Tests.{le-leb, lt-leb}
+use lib.ListN.{length, drop, replicate}
+use borrow.Author.Tests.{lt-leb}
 use Rattle.fields.specs.Bytes.{wordsOf}
 use Rattle.fields.proofs.Bytes.{length-wordsOf}
 use Rattle.rules.specs.declared.Kind.{Kind}
@@ -17,12 +14,11 @@ use Rattle.rules.specs.declared.Kind.the-variants.{Fence as FENCE, Put as PUT, 
 use Rattle.rules.specs.declared.NameList.{NameList}
 use Rattle.rules.specs.declared.Step.{Step}
 use Rattle.rules.specs.declared.ObjectList.{ObjectList}
-use Rattle.rules.specs.Lists.{all, conj, risingAbove}
+use Rattle.rules.specs.Lists.{conj, risingAbove}
 use Rattle.rules.specs.Limits.{limits}
 use Rattle.rules.specs.Table.{wellFormed}
 use Rattle.rules.specs.Request.{Asked, Unreadable}
 use Rattle.rules.specs.Typed.{padded, isPadded, nameList, namesOf, objectList, requestOf, canSay}
-use Rattle.rules.proofs.Lists.{and-both}
 use Rattle.rules.proofs.Typed.{padded-room, padded-over, padded-take, padded-said}
 use Rattle.records.proofs.Places.{some-list}
 

@@ -1,7 +1,9 @@
 pub mod Cutting
 pub mod Running
+pub mod Counts
 pub mod Replies
 pub mod Answers
 pub mod Reading
 pub mod Judging
+pub mod Commit
 pub mod Demand3

@@ -1,3 +1,5 @@
 pub mod Front
 pub mod Replay
+pub mod Counts
+pub mod Commit
 pub mod Demand3

@@ -8,7 +8,7 @@ use Prim.Native.Nat.{ℕ, suc, _+_, _*_, _≤_}
 use native.Mathlib.Omega.{arith}
 use lib.Dec.{eqb}
 use lib.ListN.{length, length-map}
-use borrow.Author.Tests.{le-ltb, le-leb, eqb-true, eqb-false, eq-eqb, not-true}
+use borrow.Author.Tests.{le-ltb, le-leb, eqb-true, eq-eqb, not-true}
 use Rattle.rules.specs.declared.Answer.the-variants.{Refused}
 use Rattle.rules.specs.declared.Hold.{Hold}
 use Rattle.rules.specs.declared.Kind.the-variants.{Collect as COLLECT}

@@ -1,10 +1,8 @@
 -- Demand 3 at document 01's limits and soundness, and that it says something.
 -- Assumes nothing.
-use mathlib.Core.Path.{_≡_, sym, _∙_}
+use mathlib.Core.Path.{sym, _∙_}
 use mathlib.Core.List.{List}
-use Prim.Native.Nat.{ℕ}
 use native.Mathlib.Omega.{arith}
-use lib.ListN.{length}
 use Rattle.rules.specs.Demand3.{Whole, eventsFrom, ledgerOf}
 use Rattle.rules.specs.History.{atFirst}
 use Rattle.rules.specs.Limits.{limits}

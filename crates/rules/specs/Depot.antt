@@ -4,13 +4,12 @@ use mathlib.Core.Path.{_≡_}
 use mathlib.Core.List.{List, [], _∷_}
 use Prim.Native.Nat.{ℕ}
 use Rattle.rules.specs.declared.Role.the-variants.{Writer, Compactor}
-use Rattle.rules.specs.declared.Kind.{Kind}
 use Rattle.rules.specs.declared.Kind.the-variants.{Fence as FENCE, Put as PUT, Commit as COMMIT, Compact as COMPACT, Hold as HOLD, List as LIST, Look as LOOK, Collect as COLLECT}
 use Rattle.rules.specs.declared.Answer.the-variants.{Refused, Done, Epoch, Collected}
 use Rattle.rules.specs.Limits.{limits}
 use Rattle.rules.specs.State.{State, fresh}
 use Rattle.rules.specs.Sound.{sound}
-use Rattle.rules.specs.Request.{Request, Asked, Ask}
+use Rattle.rules.specs.Request.{Request, Asked}
 use Rattle.rules.specs.Step.{Reply, alone, reply, next}
 
 pub data Case : Type 0 where

@@ -1,6 +1,6 @@
 -- `judge_record` meets its contract: by what the verdict's writer answers.
 -- Assumes nothing.
-use mathlib.Core.Path.{_≡_, ap, _∙_}
+use mathlib.Core.Path.{ap, _∙_}
 use borrow.Author.Needs.{needs}
 use Rattle.records.specs.declared.Write.{Write}
 use Rattle.replay.proofs.Judging.{steppedBy, unwritten, record-stepped}
