@@ -13,8 +13,10 @@ use manifests::KeptManifest;
 use manifests::Manifests;
 use objects::Objects;
 use records::KindRead;
+use rules::HOLDS;
 use rules::Hold;
 use rules::Kind;
+use rules::MANIFESTS;
 use rules::NAMES;
 use rules::NameList;
 use rules::Object;
@@ -102,7 +104,7 @@ fn manifest_from(v: &[u64]) -> KeptManifest
     }
 }
 
-fn manifest_items(v: &[u64]) -> [KeptManifest; 9]
+fn manifest_items(v: &[u64]) -> [KeptManifest; MANIFESTS]
     requires { ⌜ 180 ≤ length (now v) ⌝ }
     ensures { λ r. ⌜ r ≡ each manifestFrom 20 (manifestLimit limits) (now (v .entry)) ⌝ }
 {
@@ -114,9 +116,9 @@ fn manifest_items(v: &[u64]) -> [KeptManifest; 9]
         count: 0,
         names,
     };
-    let mut items = [zero; 9];
+    let mut items = [zero; MANIFESTS];
     let mut i: usize = 0;
-    while i < 9 {
+    while i < MANIFESTS {
         items[i] = manifest_from(&v[20 * i..]);
         i += 1;
     }
@@ -137,7 +139,7 @@ fn hold_from(v: &[u64]) -> Hold
     }
 }
 
-fn hold_items(v: &[u64]) -> [Hold; 8]
+fn hold_items(v: &[u64]) -> [Hold; HOLDS]
     requires { ⌜ 24 ≤ length (now v) ⌝ }
     ensures { λ r. ⌜ r ≡ each holdFrom 3 (limits .holds) (now (v .entry)) ⌝ }
 {
@@ -146,9 +148,9 @@ fn hold_items(v: &[u64]) -> [Hold; 8]
         manifest: 0,
         expiry: 0,
     };
-    let mut items = [zero; 8];
+    let mut items = [zero; HOLDS];
     let mut i: usize = 0;
-    while i < 8 {
+    while i < HOLDS {
         items[i] = hold_from(&v[3 * i..]);
         i += 1;
     }
@@ -236,12 +238,12 @@ fn manifest_numbers(m: KeptManifest) -> [u64; 20]
     v
 }
 
-fn put_manifests(items: [KeptManifest; 9], out: &mut [u64])
+fn put_manifests(items: [KeptManifest; MANIFESTS], out: &mut [u64])
     requires { ⌜ length (now out) ≡ 180 ⌝ }
     ensures { λ _. ⌜ now (out .exit) ≡ flat manifestNumbers items ⌝ }
 {
     let mut i: usize = 0;
-    while i < 9 {
+    while i < MANIFESTS {
         let m = items[i];
         let from = manifest_numbers(m);
         codec::fill(&from, &mut out[20 * i..20 * i + 20]);
@@ -255,12 +257,12 @@ fn hold_numbers(h: Hold) -> [u64; 3]
     [h.number, h.manifest, h.expiry]
 }
 
-fn put_holds(items: [Hold; 8], out: &mut [u64])
+fn put_holds(items: [Hold; HOLDS], out: &mut [u64])
     requires { ⌜ length (now out) ≡ 24 ⌝ }
     ensures { λ _. ⌜ now (out .exit) ≡ flat holdNumbers items ⌝ }
 {
     let mut i: usize = 0;
-    while i < 8 {
+    while i < HOLDS {
         let h = items[i];
         let from = hold_numbers(h);
         codec::fill(&from, &mut out[3 * i..3 * i + 3]);

@@ -8,12 +8,13 @@ ghost use Rattle.rules.specs.Lists.{keep, all, risingAbove};
 ghost use Rattle.rules.specs.Words.{live};
 ghost use Rattle.rules.specs.Step.{insertHold, renewed, other};
 ghost use Rattle.holds.specs.Holds.{holdsOf, layHolds, isNoHold, isLaid, hasNumber, namesManifest, manifestBy, numbers};
+use rules::HOLDS;
 use rules::Hold;
 
 // The first `count` places hold; the others are all zero.
 pub struct Holds {
     pub count: usize,
-    pub items: [Hold; 8],
+    pub items: [Hold; HOLDS],
 }
 
 // A hold is live while its expiry is 0 or not below the time.
@@ -55,8 +56,6 @@ fn with_expiry(hold: Hold, number: u64, expiry: u64) -> Hold
 }
 
 impl Holds {
-    pub const LIMIT: usize = 8;
-
     pub fn none() -> Self
         ensures { λ r. ⌜ r ≡ layHolds [] ⌝ }
     {
@@ -65,7 +64,7 @@ impl Holds {
             manifest: 0,
             expiry: 0,
         };
-        let items = [zero; 8];
+        let items = [zero; HOLDS];
         Holds { count: 0, items }
     }
 
@@ -74,10 +73,10 @@ impl Holds {
         ensures { λ r. ⌜ r ≡ isLaid self ⌝ }
     {
         let mut i = self.count;
-        if Holds::LIMIT < i {
+        if HOLDS < i {
             return false;
         }
-        while i < Holds::LIMIT {
+        while i < HOLDS {
             let h = self.items[i];
             if !is_no_hold(h) {
                 return false;

@@ -30,15 +30,15 @@ pub struct StepAnswer {
 
 impl Ledger {
     // Objects stored, names in a manifest, kept manifests, holds, and the largest currency.
-    pub const PLACES: usize = 64;
+    pub const PLACES: usize = rules::PLACES;
 
-    pub const NAMES: usize = 16;
+    pub const NAMES: usize = rules::NAMES;
 
-    pub const MANIFESTS: usize = 9;
+    pub const MANIFESTS: usize = rules::MANIFESTS;
 
-    pub const HOLDS: usize = 8;
+    pub const HOLDS: usize = rules::HOLDS;
 
-    pub const CURRENCY: u16 = 999;
+    pub const CURRENCY: u16 = rules::LARGEST_CURRENCY;
 
     // Clock 0, top name 0, no objects or holds, and manifest 0 with both epochs 0 and an empty list.
     pub fn fresh() -> Self

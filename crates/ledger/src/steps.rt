@@ -21,11 +21,13 @@ use crate::StepAnswer;
 use crate::rows;
 use manifests::KeptManifest;
 use rules::Answer;
+use rules::HOLDS;
 use rules::Hold;
 use rules::Kind;
 use rules::NameList;
 use rules::Object;
 use rules::ObjectList;
+use rules::PLACES;
 use rules::Role;
 use rules::Step;
 use rules::Verdict;
@@ -34,7 +36,7 @@ use rules::Verdict;
 fn verdict_alone(answer: Answer) -> Verdict
     ensures { λ r. ⌜ r ≡ verdictOf (alone answer) ⌝ }
 {
-    let objects = [0u64; 64];
+    let objects = [0u64; PLACES];
     let list = ObjectList { count: 0, objects };
     Verdict { answer, list }
 }
@@ -264,7 +266,7 @@ impl Ledger {
                 return 13;
             }
         }
-        if 8 <= live.count {
+        if HOLDS <= live.count {
             return 14;
         }
         0
@@ -396,7 +398,7 @@ fn object_list(names: &[u64]) -> ObjectList
     requires { ⌜ length (now names) ≤ limits .places ⌝ }
     ensures { λ r. ⌜ r ≡ objectList (now (names .entry)) ⌝ }
 {
-    let mut objects = [0u64; 64];
+    let mut objects = [0u64; PLACES];
     let mut i: usize = 0;
     while i < names.len() {
         objects[i] = names[i];

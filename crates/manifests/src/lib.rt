@@ -12,6 +12,7 @@ ghost use Rattle.rules.specs.Sound.{ordered};
 ghost use Rattle.holds.specs.Holds.{holdsOf};
 ghost use Rattle.manifests.specs.Manifests.{layManifest, manifestOf, manifestsOf, layManifests, currentOf, olderOf, isListLaid, isNoManifest, isLaid, epochsFollow, hasNumber, numbered, reached, Repackable};
 use holds::Holds;
+use rules::MANIFESTS;
 use rules::NAMES;
 
 // The names are the first `count` places; the others are 0.
@@ -26,7 +27,7 @@ pub struct KeptManifest {
 // The first `count` places; the others are all zero.
 pub struct Manifests {
     pub count: usize,
-    pub items: [KeptManifest; 9],
+    pub items: [KeptManifest; MANIFESTS],
 }
 
 // A place that is all zero; it is also manifest 0 of the fresh ledger.
@@ -65,13 +66,11 @@ fn is_no_manifest(manifest: KeptManifest) -> bool
 }
 
 impl Manifests {
-    pub const LIMIT: usize = 9;
-
     // Manifest 0 alone, with an empty list.
     pub fn first() -> Self
         ensures { λ r. ⌜ r ≡ layManifests (firstManifest ∷ []) ⌝ }
     {
-        let items = [zero(); 9];
+        let items = [zero(); MANIFESTS];
         Manifests { count: 1, items }
     }
 
@@ -83,7 +82,7 @@ impl Manifests {
         if count == 0 {
             return false;
         }
-        if Manifests::LIMIT < count {
+        if MANIFESTS < count {
             return false;
         }
         if !self.lists_laid(count) {
@@ -116,7 +115,7 @@ impl Manifests {
         ensures { λ r. ⌜ r ≡ all isNoManifest (drop count (self .items)) ⌝ }
     {
         let mut i = count;
-        while i < Manifests::LIMIT {
+        while i < MANIFESTS {
             let m = self.items[i];
             if !is_no_manifest(m) {
                 return false;
@@ -243,7 +242,7 @@ impl Manifests {
         requires { ⌜ Repackable self n holds last ⌝ }
         ensures { λ r. ⌜ r ≡ layManifests (keep (heldBy (holdsOf holds)) (map manifestOf (take n (self .items))) ++ (manifestOf last ∷ [])) ⌝ }
     {
-        let mut items = [zero(); 9];
+        let mut items = [zero(); MANIFESTS];
         let mut k: usize = 0;
         let mut i: usize = 0;
         while i < n {

@@ -13,7 +13,9 @@ ghost use Rattle.rules.specs.State.{free, occupied};
 ghost use Rattle.rules.specs.Step.{place, mark};
 ghost use Rattle.rules.specs.Sound.{isWriter, unused};
 ghost use Rattle.objects.specs.Objects.{layPlaces, isLaid, roleEpoch, placeSoundBy, storedIn, currencyIn, namedIn, ofCurrencyIn, numbersIn};
+use rules::LARGEST_CURRENCY;
 use rules::Object;
+use rules::PLACES;
 use rules::Role;
 
 // A free place is all zero.
@@ -31,16 +33,14 @@ fn no_object() -> Object
 
 pub struct Objects {
     pub occupancy: u64,
-    pub items: [Object; 64],
+    pub items: [Object; PLACES],
 }
 
 impl Objects {
-    pub const LIMIT: usize = 64;
-
     pub fn none() -> Self
         ensures { λ r. ⌜ r ≡ layPlaces (replicate (limits .places) free) ⌝ }
     {
-        let items = [no_object(); 64];
+        let items = [no_object(); PLACES];
         Objects {
             occupancy: 0,
             items,
@@ -55,7 +55,7 @@ impl Objects {
             return false;
         }
         let mut i: usize = 0;
-        while i < Objects::LIMIT {
+        while i < PLACES {
             let o = self.items[i];
             if o.number == number {
                 return true;
@@ -73,7 +73,7 @@ impl Objects {
             return false;
         }
         let mut i: usize = 0;
-        while i < Objects::LIMIT {
+        while i < PLACES {
             let o = self.items[i];
             if o.number == number {
                 if o.named {
@@ -93,7 +93,7 @@ impl Objects {
             return 0;
         }
         let mut i: usize = 0;
-        while i < Objects::LIMIT {
+        while i < PLACES {
             let o = self.items[i];
             if o.number == number {
                 return o.currency;
@@ -154,7 +154,7 @@ impl Objects {
         ensures { λ r. ⌜ r ≡ isLaid self ⌝ }
     {
         let mut word: u64 = 0;
-        let mut i = Objects::LIMIT;
+        let mut i = PLACES;
         while 0 < i {
             i -= 1;
             let o = self.items[i];
@@ -169,7 +169,7 @@ impl Objects {
         ensures { λ r. ⌜ r ≡ all (placeSoundBy top writer compactor) (self .items) ⌝ }
     {
         let mut i: usize = 0;
-        while i < Objects::LIMIT {
+        while i < PLACES {
             let o = self.items[i];
             if !place_sound(o, top, writer, compactor) {
                 return false;
@@ -184,7 +184,7 @@ impl Objects {
         ensures { λ r. ⌜ r ≡ distinct (numbersIn (self .items)) ⌝ }
     {
         let mut i: usize = 0;
-        while i < Objects::LIMIT {
+        while i < PLACES {
             let o = self.items[i];
             if self.stands_behind(o.number, i) {
                 return false;
@@ -203,7 +203,7 @@ impl Objects {
             return false;
         }
         let mut j = i + 1;
-        while j < Objects::LIMIT {
+        while j < PLACES {
             let o = self.items[j];
             if o.number == number {
                 return true;
@@ -252,7 +252,7 @@ impl Objects {
         let blank = Objects::none();
         let mut items = blank.items;
         let mut i: usize = 0;
-        while i < Objects::LIMIT {
+        while i < PLACES {
             let o = self.items[i];
             items[i] = marked(o, list);
             i += 1;
@@ -342,5 +342,5 @@ fn place_sound(object: Object, top: u64, writer: u64, compactor: u64) -> bool
     if epoch_of(role, writer, compactor) < object.epoch {
         return false;
     }
-    object.currency <= 999
+    object.currency <= LARGEST_CURRENCY
 }

@@ -12,7 +12,8 @@ use Rattle.rules.specs.declared.Hold.{Hold}
 use Rattle.rules.specs.Lists.{keep}
 use Rattle.rules.specs.Limits.{Limits, limits}
 
--- "Each has number, writer epoch, compactor epoch and a strictly rising list of at most 16 object numbers"
+-- "Each has number, writer epoch, compactor epoch and a strictly rising list of at most 16 object numbers" (000: manifests, their contiguous ids, and the
+-- epochs that tell a writer that was fenced)
 pub record Manifest : Type 0 where
   pub number : ℕ
   pub writerEpoch : ℕ
@@ -20,7 +21,7 @@ pub record Manifest : Type 0 where
   pub names : List ℕ
 
 -- top: "Top name: the highest object number ever accepted"; places: a free one is all zero;
--- older: the kept manifests before the current one, in rising number
+-- older: the kept manifests before the current one, in rising number; holds: what 000 calls snapshots
 pub record State : Type 0 where
   pub clock : ℕ
   pub top : ℕ

@@ -47,7 +47,7 @@ row3 s t = ltb t (s .clock)
 abbrev pub row4 : ℕ → ℕ → Bool
 row4 current e = eqb e 0 || ltb current e
 
--- "COMMIT, COMPACT: epoch below the role's epoch"
+-- "COMMIT, COMPACT: epoch below the role's epoch": fenced (000: a writer with an epoch below the current manifest's)
 abbrev pub row5 : ℕ → ℕ → Bool
 row5 current e = ltb e current
 
@@ -55,7 +55,7 @@ row5 current e = ltb e current
 abbrev pub row6 : State → ℕ → Bool
 row6 s slot = leb slot (s .current .number)
 
--- "same: slot above current plus one"
+-- "same: slot above current plus one"; with row 6 the slot is the next one, which is empty (004: the next manifest is written only if it doesn't exist)
 abbrev pub row7 : State → ℕ → Bool
 row7 s slot = ltb (suc (s .current .number)) slot
 
@@ -67,7 +67,7 @@ row8 s l = any (λ n. not (stored s n)) l
 abbrev pub row9 : State → ℕ → Bool
 row9 s n = stored s n
 
--- "PUT: number at most the top name and not stored"
+-- "PUT: number at most the top name and not stored": with row 9 a name is written once (000)
 abbrev pub row10 : State → ℕ → Bool
 row10 s n = leb n (s .top) && not (stored s n)
 

@@ -9,7 +9,7 @@ use Rattle.rules.specs.declared.Hold.{Hold}
 use Rattle.rules.specs.Lists.{keep, any, has, lookup, insert}
 use Rattle.rules.specs.State.{Manifest, State, firstManifest, objects, kept, epochOf}
 
--- "A hold is live while its expiry is 0 or not below the time"
+-- "A hold is live while its expiry is 0 or not below the time" (000: a snapshot is expired when its expire time is older than now, and never where it is 0)
 unfoldable pub live : ℕ → Hold → Bool
 live t x = eqb (x .expiry) 0 || leb t (x .expiry)
 
@@ -20,7 +20,7 @@ liveHolds t s = keep (live t) (s .holds)
 unfoldable pub isLive : ℕ → State → ℕ → Bool
 isLive t s x = any (λ y. eqb x (y .number)) (liveHolds t s)
 
--- "A manifest is active when current or named by a live hold"
+-- "A manifest is active when current or named by a live hold" (000: the active manifests are the latest and those that snapshots name)
 unfoldable pub active : ℕ → State → ℕ → Bool
 active t s k = eqb k (s .current .number) || any (λ y. eqb k (y .manifest)) (liveHolds t s)
 

@@ -7,13 +7,17 @@ ghost use Rattle.rules.specs.Limits.{limits};
 ghost use Rattle.rules.specs.Table.{expiryFits, wellFormed};
 ghost use Rattle.rules.specs.Typed.{isPadded, requestOf, canSay};
 
-// How many objects are stored at most, and how many a manifest names at most.
+// The limits of document 01, each named once: objects stored, object numbers in a manifest, holds, kept manifests (each
+// but the current one is held), and the largest number of a currency.
 pub const PLACES: usize = 64;
 
 pub const NAMES: usize = 16;
 
-// The largest number of a currency.
-const LARGEST_CURRENCY: u16 = 999;
+pub const HOLDS: usize = 8;
+
+pub const MANIFESTS: usize = 9;
+
+pub const LARGEST_CURRENCY: u16 = 999;
 
 // Who writes: the writer of sheets and batches, or the compactor that merges them.
 pub enum Role {
