@@ -9,6 +9,8 @@ use native.Mathlib.Omega.{arith}
 use lib.Dec.{ltb}
 use lib.ListN.{length, take, drop, length-append, length-drop, drop-of-length-le}
 use lib.Seq.{length-take-le, take-all, take-append-add, take-append-seam, drop-append-add, drop-append-seam, drop-drop}
+use types.Run.{OneOf, miss}
+use denote.Enum.Declared.{tagOf, declared}
 use borrow.Rule.Slice.PartMut.{putMid, same-len-mid}
 use Rattle.fields.specs.declared.Next.{Next}
 use Rattle.fields.specs.declared.Next.the-variants.{End, Torn, Record}
@@ -21,7 +23,8 @@ use Rattle.replay.specs.declared.Stepped.{Stepped}
 use Rattle.replay.specs.declared.Ending.{Ending}
 use Rattle.replay.specs.declared.Ending.the-variants.{Whole, Torn as EndsTorn, Full}
 use Rattle.replay.specs.Front.{answerTo, answerBytes, Judgement, unchanged, judgedWith, recordStep, stepAt, frontStep}
-use Rattle.replay.specs.Replay.{Cut, cutAt, cut, Told, tell, Replay, endingOf, replayed, replayOf}
+use Rattle.replay.specs.Replay.{Cut, cutAt, cut, Told, tell, Replay, endingOf, endingAt, replayed, replayOf}
+use Rattle.replay.proofs.Front.{enum}
 use Rattle.replay.proofs.Cutting.{Found, next-found, cut-next}
 
 -- a run that ends at once
@@ -217,11 +220,22 @@ module _ {l₀ : Ledger} {trace out₀ out : List ℕ} {l : Ledger} {read writte
       (run-next l (drop read trace) (drop written out) ∙ ap (λ (i : Judgement). goesOn i (drop read trace) (i .answer .front)) judged-rest)
 
   -- it stops
-  pub stops : (f : Front) (x : Ending) → r .front ≡ f → goesOn j (drop read trace) f ≡ stopped x (r .ledger) b
+  ends : (f : Front) (x : Ending) → r .front ≡ f → goesOn j (drop read trace) f ≡ stopped x (r .ledger) b
       → replayOf l₀ trace out₀ ≡ record { answer = record { ending = x; ledger = r .ledger; read = read; written = written }; buffer = now }
-  stops f x at end =
+  ends f x at end =
       went ∙ ap (λ (f : Front). behind read written (take written out) (goesOn j (drop read trace) f)) at ∙ ap (behind read written (take written out)) end
       ∙ (λ i. record { answer = record { ending = x; ledger = r .ledger; read = add-zero read i; written = add-zero written i }; buffer = sym put-back i })
+
+  pub stops : {x : Ending} → OneOf (0 ∷ 1 ∷ 2 ∷ []) (tagOf (declared enum) (r .front)) → x ≡ endingAt (r .front)
+      → replayOf l₀ trace out₀ ≡ record { answer = record { ending = x; ledger = r .ledger; read = read; written = written }; buffer = now }
+  stops {x} o e = by (r .front) refl o e
+    where
+      by : (f : Front) → r .front ≡ f → OneOf (0 ∷ 1 ∷ 2 ∷ []) (tagOf (declared enum) f) → x ≡ endingAt f
+          → replayOf l₀ trace out₀ ≡ record { answer = record { ending = x; ledger = r .ledger; read = read; written = written }; buffer = now }
+      by AtEnd at o e = ends AtEnd x at (ap (λ (y : Ending). stopped y (r .ledger) b) (sym e))
+      by IsTorn at o e = ends IsTorn x at (ap (λ (y : Ending). stopped y (r .ledger) b) (sym e))
+      by NoRoom at o e = ends NoRoom x at (ap (λ (y : Ending). stopped y (r .ledger) b) (sym e))
+      by (Judged n k) at o e = absurd (miss (0 ∷ 1 ∷ 2 ∷ []) 3 tt o)
 
   -- it goes on
   module _ (n k : ℕ) (at : r .front ≡ Judged n k) where

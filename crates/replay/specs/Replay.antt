@@ -11,6 +11,8 @@ use Rattle.fields.specs.declared.Next.the-variants.{End, Torn, Record}
 use Rattle.fields.specs.Fields.{over, nextOf}
 use Rattle.rules.specs.Lists.{none}
 use Rattle.ledger.specs.declared.Ledger.{Ledger}
+use Rattle.replay.specs.declared.Front.{Front}
+use Rattle.replay.specs.declared.Front.the-variants.{End as AtEnd, Torn as TornFront, Full as NoRoom, Judged}
 use Rattle.replay.specs.declared.Ending.{Ending}
 use Rattle.replay.specs.declared.Ending.the-variants.{Whole, Torn as IsTorn, Full}
 use Rattle.replay.specs.declared.Ran.{Ran}
@@ -65,6 +67,13 @@ pub record Replay : Type 0 where
 
 abbrev pub endingOf : Bool → List ℕ → Ending
 endingOf full rest = cond full Full (cond (none rest) Whole IsTorn)
+
+-- the same by what becomes of the front of what is left, as the code asks; a judged one ends no run
+abbrev pub endingAt : Front → Ending
+endingAt AtEnd = Whole
+endingAt TornFront = IsTorn
+endingAt NoRoom = Full
+endingAt (Judged n k) = Whole
 
 -- the bytes read are those of the records whose verdicts were written, the bytes written those of the verdicts
 abbrev pub replayed : Told → Cut → List ℕ → Replay

@@ -3,7 +3,7 @@ ghost use mathlib.Core.Path.{_≡_};
 ghost use Rattle.ledger.specs.Step.{judged};
 ghost use Rattle.records.specs.Steps.{decodeStep};
 ghost use Rattle.replay.specs.Front.{recordStep, frontStep};
-ghost use Rattle.replay.specs.Replay.{replayOf};
+ghost use Rattle.replay.specs.Replay.{endingAt, replayOf};
 use fields::Next;
 use ledger::Ledger;
 use ledger::StepAnswer;
@@ -97,6 +97,18 @@ pub fn step_record(ledger: Ledger, trace: &[u8], out: &mut [u8]) -> Stepped
     }
 }
 
+// How a run ends by what became of the front. A judged one ends no run.
+fn ending_at(front: Front) -> Ending
+    ensures { λ r. ⌜ r ≡ endingAt front ⌝ }
+{
+    match front {
+        Front::End => Ending::Whole,
+        Front::Torn => Ending::Torn,
+        Front::Full => Ending::Full,
+        Front::Judged { .. } => Ending::Whole,
+    }
+}
+
 // The run: goes on past refusals; each verdict is written directly behind the one before, and the bytes beyond stay.
 pub fn run(ledger: Ledger, trace: &[u8], out: &mut [u8]) -> Ran
     ensures { λ r. ⌜ replayOf ledger (now (trace .entry)) (now (out .entry)) ≡ record { answer = r; buffer = now (out .exit) } ⌝ }
@@ -108,38 +120,20 @@ pub fn run(ledger: Ledger, trace: &[u8], out: &mut [u8]) -> Ran
         let stepped = step_record(ledger, &trace[read..], &mut out[written..]);
         ledger = stepped.ledger;
         let front = stepped.front;
-        match front {
-            Front::Judged {
-                read: n,
-                written: k,
-            } => {
-                read += n;
-                written += k;
-            }
-            Front::End => {
-                return Ran {
-                    ending: Ending::Whole,
-                    ledger,
-                    read,
-                    written,
-                };
-            }
-            Front::Torn => {
-                return Ran {
-                    ending: Ending::Torn,
-                    ledger,
-                    read,
-                    written,
-                };
-            }
-            Front::Full => {
-                return Ran {
-                    ending: Ending::Full,
-                    ledger,
-                    read,
-                    written,
-                };
-            }
-        }
+        let Front::Judged {
+            read: n,
+            written: k,
+        } = front
+        else {
+            let ending = ending_at(front);
+            return Ran {
+                ending,
+                ledger,
+                read,
+                written,
+            };
+        };
+        read += n;
+        written += k;
     }
 }

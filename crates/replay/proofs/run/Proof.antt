@@ -1,12 +1,9 @@
 -- `run` meets its contract: what is left says what all says, record by record.
 -- Assumes nothing.
-use mathlib.Core.Path.{refl}
 use Prim.Native.Nat.{_-_}
 use borrow.Author.Needs.{needs}
 use native.Mathlib.Omega.{arith}
 use lib.ListN.{length}
-use Rattle.replay.specs.declared.Front.the-variants.{End, Torn, Full}
-use Rattle.replay.specs.declared.Ending.the-variants.{Whole, Torn as EndsTorn, Full as EndsFull}
 use Rattle.replay.proofs.Running.{Going, at-start, Turn, stops, some-read, read-within, written-within, goes-again}
 use Rattle.replay.proofs.run.Statement.{statement}
 use Rattle.replay.proofs.run.Tie as tie
@@ -55,13 +52,7 @@ loop-again : tie.Need-loop-again Inv-loop μ-loop
 loop-again c = goes-again (turn (c .before .before .before .before .before .before)) _ _ (c .before .front .given .1)
 
 returns : tie.Need-returns Inv-loop μ-loop
-returns c = stops (turn (c .before .before .before .before .before)) End Whole (c .enum-told .given .1) refl
-
-returns-2 : tie.Need-returns-2 Inv-loop μ-loop
-returns-2 c = stops (turn (c .before .before .before .before .before)) Torn EndsTorn (c .enum-told2 .given .1) refl
-
-returns-3 : tie.Need-returns-3 Inv-loop μ-loop
-returns-3 c = stops (turn (c .before .before .before .before .before)) Full EndsFull (c .enum-told3 .given .1) refl
+returns c = stops (turn (c .before .before .before .before .before)) (c .before .match .keys2) (c .ending-at .ensures)
 
 pub run-spec : {M : Type 1} → statement M
 run-spec =
@@ -78,16 +69,10 @@ run-spec =
     part-step-record-end-2
     (λ c κs. tt)
     (λ c. search needs)
+    (λ c κs. tt)
+    (λ c. search needs)
+    returns
     add-read
     add-written
     loop-less
-    loop-again
-    (λ c. search needs)
-    (λ c. search needs)
-    returns
-    (λ c. search needs)
-    (λ c. search needs)
-    returns-2
-    (λ c. search needs)
-    (λ c. search needs)
-    returns-3)
+    loop-again)
