@@ -82,7 +82,7 @@ uint64_t cuudhaqil_step(uint64_t *ledger, size_t ledger_len, const uint64_t *num
                         const uint64_t *list, size_t list_len, uint64_t *verdict, size_t verdict_len, uint64_t *objects,
                         size_t objects_len);
 
-/* Runs a trace on the fresh ledger: each step record is judged as cuudhaqil_step does, any other record gets verdict 2.
+/* Runs a trace on the fresh ledger: each step record is judged as cuudhaqil_step does, any other record is refused with 2.
  * 0: whole, 1: torn, 2: full; counts[0] is the bytes read, counts[1] the bytes written (a torn record, or one whose
  *    verdict has no room, is not counted). The verdicts stand at the start of out one behind the other, and the bytes
  *    beyond them stay; so do elements of counts beyond the first two.
@@ -90,7 +90,8 @@ uint64_t cuudhaqil_step(uint64_t *ledger, size_t ledger_len, const uint64_t *num
 uint64_t cuudhaqil_run(const uint8_t *trace, size_t trace_len, uint8_t *out, size_t out_len, uint64_t *counts,
                        size_t counts_len);
 
-/* The same on the ledger that the 529 numbers say, as in cuudhaqil_step; these are then the next ledger's.
+/* The same on the ledger that the 529 numbers say, as in cuudhaqil_step; these are then the next ledger's. On a ledger
+ * that is not sound every record is refused with 1.
  * 3: ledger has fewer than 529 elements or counts fewer than 2; this goes first, and all stays. */
 uint64_t cuudhaqil_run_on(uint64_t *ledger, size_t ledger_len, const uint8_t *trace, size_t trace_len, uint8_t *out,
                           size_t out_len, uint64_t *counts, size_t counts_len);

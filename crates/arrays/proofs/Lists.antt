@@ -8,7 +8,7 @@ use native.Mathlib.Nat.{sub-zero, not-suc-le-zero, le-of-suc-le-suc}
 use native.Mathlib.Omega.{arith}
 use native.Mathlib.Numerals.{add-one}
 use lib.ListN.{length, getD, take, drop, set, replicate, length-append, length-take, length-replicate, length-map, take-append-drop, length-drop}
-use lib.Seq.{take-suc, set-append-seam, append-snoc, take-append-seam, length-take-le, getD-take, getD-at, set-at, drop-append-add, drop-cons, take-length, drop-length, drop-append-seam}
+use lib.Seq.{take-suc, set-append-seam, append-snoc, take-append-seam, length-take-le, getD-take, drop-append-add, drop-append-seam}
 use Rattle.rules.specs.Lists.{keep, any, all}
 use Rattle.rules.proofs.Lists.{and-left, and-right, and-both}
 use Rattle.arrays.specs.Arrays.{pad}
@@ -167,69 +167,6 @@ module _ {A : Type 0} where
       let e : n - length xs ≡ suc (n - suc (length xs)) = omega arith in
       rw e (ap (λ (k : ℕ). drop k (xs ++ replicate (suc (n - suc (length xs))) z)) (sym (add-one (length xs)))
       ∙ drop-append-add xs (replicate (suc (n - suc (length xs))) z) 1)
-
--- A loop that goes down through a list.
-module _ {A : Type 0} (p : A → Bool) (l : List A) (i : ℕ) (d : A) (h : i < length l) where
-  pub keep-down-kept : p (getD l i d) ≡ true → keep p (drop i l) ≡ getD l i d ∷ keep p (drop (suc i) l)
-  unfolding keep
-  keep-down-kept t = rw (drop-cons l i d h, t)
-
-  pub keep-down-left : p (getD l i d) ≡ false → keep p (drop i l) ≡ keep p (drop (suc i) l)
-  unfolding keep
-  keep-down-left t = rw (drop-cons l i d h, t)
-
--- from the end down to i each element has been replaced by f of it
-unfoldable pub sweptFrom : {A : Type 0} (f : A → A) (l : List A) → ℕ → List A
-sweptFrom f l i = take i l ++ map f (drop i l)
-
-module _ {A : Type 0} (f : A → A) (l : List A) where
-  pub swept-none : sweptFrom f l (length l) ≡ l
-  unfolding sweptFrom
-  swept-none = rw (take-length, drop-length) (append-nil l)
-
-  pub swept-all : sweptFrom f l 0 ≡ map f l
-  unfolding sweptFrom
-  swept-all = refl
-
-  pub length-swept : (i : ℕ) → length (sweptFrom f l i) ≡ length l
-  unfolding sweptFrom
-  length-swept i =
-      length-append (take i l) (map f (drop i l)) ∙ ap (λ (k : ℕ). length (take i l) + k) (length-map (drop i l) f)
-      ∙ sym (length-append (take i l) (drop i l)) ∙ ap length (take-append-drop i l)
-
-  module _ (i : ℕ) (d : A) (h : i < length l) where
-    unrolled : sweptFrom f l (suc i) ≡ take i l ++ getD l i d ∷ map f (drop (suc i) l)
-    unfolding sweptFrom
-    unrolled = rw (take-suc l i d h) (append-snoc (take i l) (getD l i d) (map f (drop (suc i) l)))
-
-    few : length (take i l) ≡ i
-    few = length-take-le i l (omega arith)
-
-    pub swept-read : getD (sweptFrom f l (suc i)) i d ≡ getD l i d
-    swept-read = rw unrolled (getD-at (take i l) (getD l i d) (map f (drop (suc i) l)) d i few)
-
-    pub swept-set : set (sweptFrom f l (suc i)) i (f (getD l i d)) ≡ sweptFrom f l i
-    unfolding sweptFrom
-    swept-set =
-        rw unrolled (set-at (take i l) (getD l i d) (map f (drop (suc i) l)) (f (getD l i d)) i few)
-        ∙ ap (λ (r : List A). take i l ++ map f r) (sym (drop-cons l i d h))
-
-    pub swept-same : f (getD l i d) ≡ getD l i d → sweptFrom f l (suc i) ≡ sweptFrom f l i
-    unfolding sweptFrom
-    swept-same e =
-        unrolled ∙ ap (λ (x : A). take i l ++ x ∷ map f (drop (suc i) l)) (sym e)
-        ∙ ap (λ (r : List A). take i l ++ map f r) (sym (drop-cons l i d h))
-
-  -- a turn of the loop, with its array a: what is stored is f of what was read, or nothing is stored and f leaves it as it is
-  module _ (a : List A) (i : ℕ) (d : A) (h : i < length l) (e : a ≡ sweptFrom f l (suc i)) where
-    read-same : getD a i d ≡ getD l i d
-    read-same = ap (λ (x : List A). getD x i d) e ∙ swept-read i d h
-
-    pub sweep-store : (v : A) → v ≡ f (getD a i d) → set a i v ≡ sweptFrom f l i
-    sweep-store v p = ap₂ (λ (x : List A) (y : A). set x i y) e (p ∙ ap f read-same) ∙ swept-set i d h
-
-    pub sweep-keep : f (getD a i d) ≡ getD a i d → a ≡ sweptFrom f l i
-    sweep-keep p = e ∙ swept-same i d h (ap f (sym read-same) ∙ p ∙ read-same)
 
 module _ {A B : Type 0} (f : A → B) (g : B → A) where
   pub same-at : (xs : List A) → map g (map f xs) ≡ xs → (i : ℕ) (d : A) → i < length xs → g (f (getD xs i d)) ≡ getD xs i d

@@ -6,6 +6,11 @@ ghost use lib.ListN.{length};
 ghost use Rattle.fields.specs.Fields.{over, nextOf};
 ghost use Rattle.exports.specs.Codec.{stepSize, roleNumber, stepNumbers, kindOf, fenceOf, putOf, lookOf, verdictNumbers, answerOf, writeCode, nextCode, readStep, writeStep, readVerdict, writeVerdict};
 use crate::AnswerRead;
+use crate::FULL;
+use crate::MALFORMED;
+use crate::NO_PLACE;
+use crate::STEP;
+use crate::VERDICT;
 use fields::Next;
 use records::KindRead;
 use records::Reading;
@@ -20,19 +25,7 @@ use rules::Role;
 use rules::Step;
 use rules::Verdict;
 
-// How many numbers a step and a verdict have, beside the list.
-const STEP: usize = 11;
-
-const VERDICT: usize = 3;
-
-// What the calls answer besides a length.
 const READ: u64 = 0;
-
-const FULL: u64 = 0;
-
-const MALFORMED: u64 = 2;
-
-const NO_PLACE: u64 = 3;
 
 // Lays the numbers over the start of the others.
 pub fn fill(from: &[u64], to: &mut [u64])

@@ -6,6 +6,11 @@ ghost use Rattle.rules.specs.Limits.{limits, manifestLimit};
 ghost use Rattle.fields.specs.Fields.{over};
 ghost use Rattle.exports.specs.Codec.{stepSize, verdictSize, verdictNumbers};
 ghost use Rattle.exports.specs.Ledgers.{flag, flat, each, roleFrom, objectFrom, manifestFrom, holdFrom, ledgerFrom, objectNumbers, manifestNumbers, holdNumbers, ledgerNumbers, ledgerSize, fresh, step};
+use crate::LEDGER;
+use crate::MALFORMED;
+use crate::NO_PLACE;
+use crate::STEP;
+use crate::VERDICT;
 use crate::codec;
 use holds::Holds;
 use ledger::Ledger;
@@ -24,17 +29,6 @@ use rules::PLACES;
 use rules::Role;
 use rules::Step;
 use rules::Verdict;
-
-// How many numbers a ledger, a step and a verdict have, beside the lists.
-const LEDGER: usize = 529;
-
-const STEP: usize = 11;
-
-const VERDICT: usize = 3;
-
-const NO_PLACE: u64 = 3;
-
-const MALFORMED: u64 = 2;
 
 // In
 

@@ -2,20 +2,17 @@
 ghost use mathlib.Core.Path.{_≡_};
 ghost use Rattle.store_names.specs.Names.{writeCode};
 ghost use Rattle.exports.specs.Names.{readName, writeName};
+use crate::FULL;
+use crate::MALFORMED;
+use crate::NO_PLACE;
 use store_names::Name;
 use store_names::NameRead;
 use store_names::NameWrite;
 
-// A name's kind, and what the calls answer besides.
+// A name's kind.
 const MANIFEST: u64 = 0;
 
 const OBJECT: u64 = 1;
-
-const MALFORMED: u64 = 2;
-
-const NO_PLACE: u64 = 3;
-
-const FULL: u64 = 0;
 
 // Reads all the bytes as one name: its kind, and its number in number[0].
 #[no_mangle]

@@ -1,15 +1,13 @@
 // A trace run from C: on the fresh ledger, or on one that is lent as numbers.
 ghost use mathlib.Core.Path.{_≡_};
 ghost use Rattle.exports.specs.Runs.{endingCode, run, runOn};
+use crate::LEDGER;
+use crate::NO_PLACE;
 use crate::ledgers;
 use ledger::Ledger;
 use replay::Ending;
 
-const NO_PLACE: u64 = 3;
-
-// How many numbers a ledger has, and the counts of a run.
-const LEDGER: usize = 529;
-
+// The bytes read, and the bytes written.
 const COUNTS: usize = 2;
 
 fn ending_code(ending: Ending) -> u64

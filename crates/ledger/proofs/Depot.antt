@@ -14,7 +14,7 @@ use Rattle.rules.specs.Typed.{requestOf, verdictOf}
 use Rattle.rules.specs.Depot.{Case, starred, runs, week}
 use Rattle.rules.specs.Depot as rules
 use Rattle.rules.proofs.Lists.{and-left, and-right}
-use Rattle.rules.proofs.Typed.{padded-take, padded-said}
+use Rattle.rules.proofs.Typed.{list-asks}
 use Rattle.rules.proofs.Soundness.{sound-fresh, next-sound}
 use Rattle.rules.proofs.Depot.{week-holds}
 use Rattle.ledger.specs.declared.Ledger.{Ledger}
@@ -30,9 +30,7 @@ fits (Asked t k l) = leb (length l) (limits .names)
 fits Unreadable = false
 
 pub typed-asks : (q : Request) → fits q ≡ true → requestOf (typed q) ≡ q
-typed-asks (Asked t k l) e =
-    let h = leb-true (length l) (limits .names) e in
-    rw (padded-said (limits .names) l h, padded-take (limits .names) l h)
+typed-asks (Asked t k l) e = list-asks t k l (leb-true (length l) (limits .names) e)
 typed-asks Unreadable e = absurd (false≢true e)
 
 unfoldable allFit : List Case → Bool

@@ -207,15 +207,6 @@ module _ (ms : Manifests) (l : Long ms) (e : isLaid ms ≡ true) where
 pub of-lay : (m : Manifest) → manifestOf (layManifest m) ≡ m
 of-lay m = λ i. record { number = m .number; writerEpoch = m .writerEpoch; compactorEpoch = m .compactorEpoch; names = take-pad 16 0 (m .names) i }
 
-pub manifests-lay : (ms : List Manifest) → manifestsOf (layManifests ms) ≡ ms
-manifests-lay ms =
-    ap (λ (n : ℕ). map manifestOf (take n (pad 9 noManifest (map layManifest ms)))) (sym (length-map ms layManifest))
-    ∙ ap (map manifestOf) (take-pad 9 noManifest (map layManifest ms)) ∙ each-back ms
-  where
-    each-back : (l : List Manifest) → map manifestOf (map layManifest l) ≡ l
-    each-back [] = refl
-    each-back (m ∷ l) = ap₂ _∷_ (of-lay m) (each-back l)
-
 lay-padded : (m : Manifest) → length (m .names) ≤ limits .names → isListLaid (layManifest m) ≡ true
 unfolding isPadded
 lay-padded m h =

@@ -19,7 +19,7 @@ use Rattle.rules.specs.Limits.{limits}
 use Rattle.rules.specs.Table.{wellFormed}
 use Rattle.rules.specs.Request.{Asked, Unreadable}
 use Rattle.rules.specs.Typed.{padded, isPadded, nameList, namesOf, objectList, requestOf, canSay}
-use Rattle.rules.proofs.Typed.{padded-room, padded-over, padded-take, padded-said}
+use Rattle.rules.proofs.Typed.{padded-room, padded-over, list-asks}
 use Rattle.records.proofs.Places.{some-list}
 
 -- words read over zeros
@@ -39,7 +39,7 @@ module _ (count : ℕ) (w s : List ℕ) (e : w ≡ wordsOf count s) where
 
 -- a typed step whose list stands in its places says what it asks
 pub step-said : (t : ℕ) (k : Kind) (l : List ℕ) → length l ≤ limits .names → canSay (requestOf (record { time = t; kind = k; list = nameList l })) ≡ wellFormed limits t k l
-step-said t k l h = rw (padded-said (limits .names) l h, padded-take (limits .names) l h)
+step-said t k l h = ap canSay (list-asks t k l h)
 
 -- more names than a step has
 pub step-long : (t : ℕ) (k : Kind) (l : List ℕ) → limits .names < length l → wellFormed limits t k l ≡ false

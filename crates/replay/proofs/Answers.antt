@@ -3,7 +3,7 @@
 use mathlib.Core.Path.{_≡_, refl, sym, ap, _∙_}
 use mathlib.Core.Logic.{_⊎_, inl, inr}
 use mathlib.Core.Bool.{Bool, true, false, cond}
-use mathlib.Core.List.{List}
+use mathlib.Core.List.{List, _++_}
 use Prim.Native.Nat.{ℕ, _+_, _≤_}
 use native.Mathlib.Omega.{arith}
 use lib.Dec.{leb, eqb}
@@ -21,7 +21,9 @@ use Rattle.rules.specs.Step.{Reply, alone, effect, granted, reply, sizeOf, verd
 use Rattle.rules.specs.Typed.{isPadded, objectsOf, padded, verdictOf}
 use Rattle.rules.proofs.Lists.{and-both, and-left, and-right, decide, true-false}
 use Rattle.rules.proofs.Typed.{padded-room, padded-said, padded-take}
-use Rattle.fields.proofs.Fields.{length-field}
+use Rattle.fields.specs.declared.Next.the-variants.{Record}
+use Rattle.fields.specs.Fields.{nextOf}
+use Rattle.fields.proofs.Fields.{length-field, next-field}
 use Rattle.records.specs.Format.{bytesOf}
 use Rattle.records.specs.Steps.{decodeStep}
 use Rattle.records.specs.Verdicts.{canAnswer, encodeVerdict, verdictFields, verdictFormed, verdictTag}
@@ -106,6 +108,13 @@ laid-bytes s e q =
     let r = reply limits (sound limits) s q in
     let formed : Formed r = ap (λ (t : State). verdictFormed (reply limits (sound limits) t q .answer) (reply limits (sound limits) t q .list)) (sym (view-lay s)) ∙ reply-formed (lay s) (lay-sound s e) q in
     ap (λ (v : Verdict). encodeVerdict (v .answer) (objectsOf (v .list))) (verdict-laid s e q) ∙ ap (encodeVerdict (r .answer)) (placed-list r formed)
+
+-- a verdict's record at the front of others is found whole
+pub verdict-next : (v : Verdict) (rest : List ℕ) → length (verdictBytes v) ≤ 522 → nextOf (verdictBytes v ++ rest) ≡ Record (length (verdictBytes v))
+verdict-next v rest h =
+    let value = bytesOf (verdictFields (v .answer)) (objectsOf (v .list)) in
+    let long = length-field verdictTag value in
+    next-field verdictTag value rest (omega (arith, h, long)) ∙ ap Record (sym long)
 
 -- "The longest verdict is 522 bytes"
 pub answer-fits : (l : Ledger) (bytes : List ℕ) → length (answerBytes l bytes) ≤ 522

@@ -2,21 +2,26 @@
 -- Assumes nothing.
 use mathlib.Core.Path.{_≡_, refl, sym, ap, _∙_}
 use mathlib.Core.Bool.{Bool, true, false, cond, false≢true}
-use mathlib.Core.List.{List, [], _∷_, _++_, flatten, append-assoc, append-nil}
+use mathlib.Core.Logic.{⊎-elim}
+use mathlib.Core.List.{List, [], _∷_, _++_, flatten, append-assoc, append-nil, List·Memᴰ·head, List·Memᴰ·tail, List·Memᴰ·not-nil, List·Memᴰ·cases-cons}
 use Prim.Native.Nat.{ℕ, zero, suc, _-_, _≤_}
 use native.Mathlib.Omega.{arith}
 use lib.Dec.{ltb}
 use lib.ListN.{length, take, drop, length-append, length-drop}
 use lib.Seq.{length-take-le, take-length, take-append-seam, drop-append-seam}
 use borrow.Author.Tests.{ltb-false}
-use Rattle.rules.specs.Lists.{none}
+use Rattle.fields.specs.declared.Next.{Next}
+use Rattle.fields.specs.declared.Next.the-variants.{Record}
+use Rattle.fields.specs.Fields.{nextOf}
+use Rattle.rules.specs.Lists.{_∈_, none}
 use Rattle.ledger.specs.declared.Ledger.{Ledger}
 use Rattle.replay.specs.declared.Ending.{Ending}
 use Rattle.replay.specs.declared.Ending.the-variants.{Whole, Torn, Full}
 use Rattle.replay.specs.Front.{answerTo, answerBytes}
-use Rattle.replay.specs.Replay.{Told, tell, cut, endingOf, replayOf}
+use Rattle.replay.specs.Replay.{Told, tell, Cut, cutAt, cutFor, cut, endingOf, replayOf}
 use Rattle.replay.specs.Counts.{verdictsOf, answered, Counted}
-use Rattle.replay.proofs.Cutting.{cut-joined}
+use Rattle.replay.proofs.Cutting.{cut-joined, cut-next}
+use Rattle.replay.proofs.Answers.{verdict-next, answer-fits}
 
 -- what the records are told: no more verdicts than records, no more bytes than room, and all where none lacked room
 record Ample (room : ℕ) (rs : List (List ℕ)) (t : Told) : Type 0 where
@@ -43,6 +48,38 @@ tells l room (r ∷ rs) = by (ltb room (length v)) refl (tells (answerTo l r .le
       fits = omega (arith, m .fits, length-append v (flatten (more .verdicts)), ltb-false room (length v) e);
       each = λ f. ap suc (m .each f);
     }
+
+-- fields one behind the other are cut apart again
+abbrev Fields : List (List ℕ) → Type 0
+Fields vs = (v : List ℕ) → v ∈ vs → (rest : List ℕ) → nextOf (v ++ rest) ≡ Record (length v)
+
+cut-fields : (vs : List (List ℕ)) → Fields vs → cut (flatten vs) ≡ record { records = vs; rest = [] }
+unfolding flatten cutFor
+cut-fields [] f = refl
+cut-fields (v ∷ vs) f =
+    cut-next (v ++ flatten vs) ∙ ap (λ (x : Next). cutAt x (v ++ flatten vs) cut) (f v (List·Memᴰ·head refl) (flatten vs))
+    ∙ (λ i. record {
+      records = take-append-seam v (flatten vs) i ∷ cut (drop-append-seam v (flatten vs) i) .records;
+      rest = cut (drop-append-seam v (flatten vs) i) .rest;
+    })
+    ∙ ap (λ (c : Cut). record { records = v ∷ c .records; rest = c .rest }) (cut-fields vs (λ w i. f w (List·Memᴰ·tail i)))
+
+-- every verdict is a field
+tell-fields : (l : Ledger) (room : ℕ) (rs : List (List ℕ)) → Fields (tell l room rs .verdicts)
+unfolding tell
+tell-fields l room [] = λ v i. absurd (List·Memᴰ·not-nil i)
+tell-fields l room (r ∷ rs) = by (ltb room (length (answerBytes l r))) (tell-fields (answerTo l r .ledger) (room - length (answerBytes l r)) rs)
+  where
+    more : Told
+    more = tell (answerTo l r .ledger) (room - length (answerBytes l r)) rs
+
+    first : (rest : List ℕ) → nextOf (answerBytes l r ++ rest) ≡ Record (length (answerBytes l r))
+    first rest = verdict-next (answerTo l r .verdict) rest (answer-fits l r)
+
+    by : (b : Bool) → Fields (more .verdicts)
+        → Fields (cond {A = Told} b (record { ledger = l; verdicts = []; full = true }) (record { ledger = more .ledger; verdicts = answerBytes l r ∷ more .verdicts; full = more .full }) .verdicts)
+    by true f = λ v i. absurd (List·Memᴰ·not-nil i)
+    by false f = λ v i rest. ⊎-elim (λ e. ap (λ (w : List ℕ). nextOf (w ++ rest)) e ∙ first rest ∙ ap (λ (w : List ℕ). Record (length w)) (sym e)) (λ j. f v j rest) (List·Memᴰ·cases-cons i)
 
 -- the first records, and the others
 first-joined : (k : ℕ) (rs : List (List ℕ)) → flatten (take k rs) ++ flatten (drop k rs) ≡ flatten rs
@@ -101,6 +138,7 @@ counted l trace out =
       readWithin = omega (arith, ap length (begins l trace out), length-append a (behind l trace out));
       written = take-append-seam v (drop (length v) out);
       beyond = drop-append-seam v (drop (length v) out);
+      readable = cut-fields (verdictsOf l trace out) (tell-fields l (length out) (cut trace .records));
       size = omega (arith, length-append v (drop (length v) out), length-drop (length v) out, fits);
       all = λ e. let w = ends-whole (tell l (length out) (cut trace .records) .full) (cut trace .rest) e in ap length (whole l trace out (told l trace out .each (w .0)) (w .1));
     }

@@ -1,8 +1,8 @@
 pub mod Cutting
 pub mod Running
-pub mod Counts
 pub mod Replies
 pub mod Answers
+pub mod Counts
 pub mod Reading
 pub mod Judging
 pub mod Commit

@@ -15,7 +15,7 @@ use Rattle.rules.specs.Table.{wellFormed}
 use Rattle.rules.specs.Request.{Request, Asked, Unreadable}
 use Rattle.rules.specs.Typed.{requestOf}
 use Rattle.rules.proofs.Lists.{decide, true-false}
-use Rattle.rules.proofs.Typed.{padded-take, padded-said}
+use Rattle.rules.proofs.Typed.{list-asks}
 use Rattle.records.specs.declared.Reading.{Reading}
 use Rattle.records.specs.declared.Reading.the-variants.{Read, Malformed}
 use Rattle.records.specs.declared.KindRead.{KindRead}
@@ -72,7 +72,7 @@ isRead Malformed = false
 module _ (l : Ledger) where
   read-asks : (q : Request) → Fits q → stepRead q .reading ≡ Read → judged l (requestOf (stepRead q .step)) ≡ judged l q
   read-asks Unreadable f e = absurd (false≢true (ap isRead e))
-  read-asks (Asked t k names) f e = rw (padded-said (limits .names) names f, padded-take (limits .names) names f)
+  read-asks (Asked t k names) f e = ap (judged l) (list-asks t k names f)
 
   refused-asks : (q : Request) → stepRead q .reading ≡ Malformed → judged l Unreadable ≡ judged l q
   refused-asks Unreadable e = refl

@@ -3,19 +3,20 @@
 use mathlib.Core.Path.{_≡_, refl, sym, ap, ap₂, subst, _∙_}
 use mathlib.Core.Bool.{Bool, true, false, cond}
 use mathlib.Core.List.{List, [], _∷_, _++_, flatten, append-assoc, append-nil}
-use Prim.Native.Nat.{ℕ, _+_, _-_, _≤_, _<_}
+use Prim.Native.Nat.{ℕ, _+_, _-_, _≤_}
 use native.Mathlib.Nat.{add-zero}
 use native.Mathlib.Omega.{arith}
 use lib.Dec.{ltb}
 use lib.ListN.{length, take, drop, length-append, length-drop, drop-of-length-le}
 use lib.Seq.{length-take-le, take-all, take-append-add, take-append-seam, drop-append-add, drop-append-seam, drop-drop}
+use borrow.Author.Tests.{eq-eqb, ne-eqb}
 use types.Run.{OneOf, miss}
 use denote.Enum.Declared.{tagOf, declared}
 use borrow.Rule.Slice.PartMut.{putMid, same-len-mid}
 use Rattle.fields.specs.declared.Next.{Next}
 use Rattle.fields.specs.declared.Next.the-variants.{End, Torn, Record}
 use Rattle.fields.specs.Fields.{over, nextOf}
-use Rattle.rules.specs.Lists.{none}
+use Rattle.rules.proofs.Typed.{length-none}
 use Rattle.ledger.specs.declared.Ledger.{Ledger}
 use Rattle.replay.specs.declared.Front.{Front}
 use Rattle.replay.specs.declared.Front.the-variants.{End as AtEnd, Torn as IsTorn, Full as NoRoom, Judged}
@@ -78,17 +79,6 @@ Goes j bs IsTorn = Unit {0}
 Goes j bs NoRoom = Unit {0}
 Goes j bs (Judged n k) = (3 ≤ n) × (n ≤ length bs) × (k ≤ length (j .buffer))
 
--- no bytes, or some
-none-empty : (bs : List ℕ) → length bs ≡ 0 → none bs ≡ true
-unfolding none
-none-empty [] e = refl
-none-empty (b ∷ bs) e = absurd (omega (arith, e))
-
-none-more : (bs : List ℕ) → 0 < length bs → none bs ≡ false
-unfolding none
-none-more [] h = absurd (omega (arith, h))
-none-more (b ∷ bs) h = refl
-
 -- bytes laid over the start, then others over the rest
 over-behind : (v w out : List ℕ) → over (v ++ w) out ≡ take (length v) (over v out) ++ over w (drop (length v) (over v out))
 over-behind v w out =
@@ -146,8 +136,8 @@ module _ (l : Ledger) (bs out : List ℕ) where
   at-front : (x : Next) → Found bs x
       → replayed (tell l (length out) (cutAt x bs cut .records)) (cutAt x bs cut) out ≡ goesOn (stepAt x l bs out) bs (stepAt x l bs out .answer .front)
   unfolding tell flatten recordStep
-  at-front End f = rw (none-empty bs f)
-  at-front Torn f = rw (none-more bs f)
+  at-front End f = rw (← length-none bs, eq-eqb (length bs) 0 f)
+  at-front Torn f = rw (← length-none bs, ne-eqb (length bs) 0 (omega (arith, f)))
   at-front (Record n) f = record-next n (f .1) (ltb (length out) (length (answerBytes l (take n bs))))
 
   pub run-next : replayOf l bs out ≡ goesOn (frontStep l bs out) bs (frontStep l bs out .answer .front)

@@ -2,7 +2,7 @@
 -- and written)"; "each verdict is written directly behind the one before, and bytes beyond stay"). Proved in proofs/Counts.antt.
 -- Assumes nothing.
 use mathlib.Core.Path.{_≡_}
-use mathlib.Core.List.{List, _++_, flatten}
+use mathlib.Core.List.{List, [], _++_, flatten}
 use Prim.Native.Nat.{ℕ, _≤_}
 use lib.ListN.{length, take, drop}
 use Rattle.ledger.specs.declared.Ledger.{Ledger}
@@ -29,5 +29,7 @@ module _ (l : Ledger) (trace out : List ℕ) where
     pub written : take (replayOf l trace out .answer .written) (replayOf l trace out .buffer) ≡ flatten verdictsOf
     pub beyond : drop (replayOf l trace out .answer .written) (replayOf l trace out .buffer) ≡ drop (replayOf l trace out .answer .written) out
     pub size : length (replayOf l trace out .buffer) ≡ length out
+    -- the bytes written are a trace of their own: cut into records, they are the verdicts
+    pub readable : cut (flatten verdictsOf) ≡ record { records = verdictsOf; rest = [] }
     -- a run that ends whole has read all
     pub all : replayOf l trace out .answer .ending ≡ Whole → replayOf l trace out .answer .read ≡ length trace

@@ -1,14 +1,14 @@
--- What the fixed places rest on: nine manifests are enough, a collection fits its verdict, and a FENCE marks nothing new.
+-- What the fixed places rest on: nine manifests are enough, and a collection fits its verdict.
 -- Assumes nothing.
-use mathlib.Core.Path.{_≡_, refl, sym, ap, ap₂, _∙_}
+use mathlib.Core.Path.{_≡_, refl, sym, ap, _∙_}
 use mathlib.Core.Logic.{_⊎_, inl, inr}
-use mathlib.Core.Bool.{Bool, true, false, not, cond, _||_}
-use mathlib.Core.List.{List, [], _∷_, map, append-nil, List·Memᴰ·head, List·Memᴰ·tail, List·Memᴰ·not-nil, List·Memᴰ·cases-cons, Memᴰ·cast, Memᴰ·map, Memᴰ·of-map}
+use mathlib.Core.Bool.{Bool, true, false, not, cond}
+use mathlib.Core.List.{List, [], _∷_, map, append-nil, Memᴰ·cast, Memᴰ·map, Memᴰ·of-map}
 use Prim.Native.Nat.{ℕ, suc, _+_, _*_, _≤_}
 use native.Mathlib.Omega.{arith}
 use lib.Dec.{eqb}
 use lib.ListN.{length, length-map}
-use borrow.Author.Tests.{le-ltb, le-leb, eqb-true, eq-eqb, not-true}
+use borrow.Author.Tests.{le-ltb, le-leb, eqb-true, eq-eqb}
 use Rattle.rules.specs.declared.Answer.the-variants.{Refused}
 use Rattle.rules.specs.declared.Hold.{Hold}
 use Rattle.rules.specs.declared.Kind.the-variants.{Collect as COLLECT}
@@ -18,14 +18,14 @@ use Rattle.rules.specs.Lists.{_∈_, any, distinct, has, keep, none}
 use Rattle.rules.specs.Request.{Asked, Request}
 use Rattle.rules.specs.Sound.{ordered, sound}
 use Rattle.rules.specs.State.{Manifest, State, kept, objects, occupied}
-use Rattle.rules.specs.Step.{accepts, alone, answers, collected, granted, mark, reply, rowsOf, settle, size, verdict}
+use Rattle.rules.specs.Step.{accepts, alone, answers, collected, granted, reply, rowsOf, settle, size, verdict}
 use Rattle.rules.specs.Table.{rows, wellFormed}
 use Rattle.rules.specs.Words.{dead}
-use Rattle.rules.proofs.Lists.{and-both, and-left, and-right, any-in, bool-ext, decide, in-keep, keep-in, or-cases, or-left, true-false}
-use Rattle.rules.proofs.Numbers.{has-in, in-has, keep-length, sorted-length}
+use Rattle.rules.proofs.Lists.{and-both, any-in, decide, keep-in}
+use Rattle.rules.proofs.Numbers.{has-in, keep-length, sorted-length}
 use Rattle.rules.proofs.Ordered.{Head, ordered-above, ordered-front, ordered-head, ordered-keep}
 use Rattle.rules.proofs.Pigeonhole.{pigeonhole}
-use Rattle.rules.proofs.Shape.{Shape, held-of, numbers, shape-of}
+use Rattle.rules.proofs.Shape.{Shape, held-of, shape-of}
 use Rattle.rules.proofs.Table.{of-clear}
 
 -- Nine manifests are enough
@@ -112,48 +112,3 @@ collect-accepted L s t room e le h =
         let b = collected-length t (settle t s) in
         let c = shape-of L s e .size in
         omega arith
-
--- A FENCE marks nothing: what the current list names is marked already
-
-distinct-unique : (os : List Object) → distinct (numbers os) ≡ true → (o q : Object) → o ∈ os → q ∈ os → o .number ≡ q .number → o ≡ q
-unfolding distinct
-distinct-unique [] e o q i j s = absurd (List·Memᴰ·not-nil i)
-distinct-unique (x ∷ xs) e o q i j s = step (List·Memᴰ·cases-cons i) (List·Memᴰ·cases-cons j) (λ a b. distinct-unique xs (and-right (not (has (x .number) (numbers xs))) _ e) o q a b s)
-  where
-    absent : (y : Object) → y ∈ xs → y .number ≡ x .number → ⊥
-    absent y i p = true-false _ (in-has (Memᴰ·cast (sym p) (Memᴰ·map (λ (o : Object). o .number) i))) (not-true _ (and-left (not (has (x .number) (numbers xs))) _ e))
-
-    step : (o ≡ x) ⊎ (o ∈ xs) → (q ≡ x) ⊎ (q ∈ xs) → (o ∈ xs → q ∈ xs → o ≡ q) → o ≡ q
-    step (inl a) (inl b) f = a ∙ sym b
-    step (inl a) (inr b) f = absurd (absent q b (sym s ∙ ap (λ (o : Object). o .number) a))
-    step (inr a) (inl b) f = absurd (absent o a (s ∙ ap (λ (o : Object). o .number) b))
-    step (inr a) (inr b) f = f a b
-
-map-fixed : (f : Object → Object) (l : List Object) → ((o : Object) → o ∈ l → f o ≡ o) → map f l ≡ l
-map-fixed f [] h = refl
-map-fixed f (o ∷ os) h = ap₂ _∷_ (h o (List·Memᴰ·head refl)) (map-fixed f os (λ q i. h q (List·Memᴰ·tail i)))
-
-pub fence-marks-nothing : (L : Limits) (s : State) → sound L s ≡ true → map (mark (s .current .names)) (s .places) ≡ s .places
-fence-marks-nothing L s e = map-fixed (mark (s .current .names)) (s .places) (λ o i. λ j. record {
-  number = o .number;
-  role = o .role;
-  epoch = o .epoch;
-  currency = o .currency;
-  named = already o i j;
-})
-  where
-    r : Shape L s
-    r = shape-of L s e
-
-    marked : (o : Object) → o ∈ s .places → has (o .number) (s .current .names) ≡ true → o .named ≡ true
-    marked o i t =
-        let k = r .current (o .number) (has-in _ _ t) in
-        let used = ap (λ n. not (eqb n 0)) (sym (k .2)) ∙ keep-in occupied (s .places) (k .1) .1 in
-        ap (λ (o : Object). o .named) (distinct-unique (objects s) (r .distinct) o (k .0) (in-keep occupied i used) (k .1) (sym (k .2))) ∙ k .3
-
-    already : (o : Object) → o ∈ s .places → (o .named || has (o .number) (s .current .names)) ≡ o .named
-    already o i = bool-ext _ _ (λ t. step (or-cases (o .named) _ t)) (λ t. or-left _ _ t)
-      where
-        step : (o .named ≡ true) ⊎ (has (o .number) (s .current .names) ≡ true) → o .named ≡ true
-        step (inl t) = t
-        step (inr t) = marked o i t

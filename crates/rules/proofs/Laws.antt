@@ -17,7 +17,6 @@ use Rattle.rules.specs.Step.{clear, collected, heldBy, place, publish, t
 use Rattle.rules.specs.Table.{row10, row6, row9}
 use Rattle.rules.specs.Words.{dead, listed, live, liveHolds, manifestOf, pending, stored}
 use Rattle.rules.proofs.Lists.{and-both, any-same, decide, in-any, keep-in, keep-same, true-false}
-use Rattle.rules.proofs.Numbers.{in-sorted, rising-ext, rising-sorted, sorted-in}
 
 -- Manifests
 
@@ -85,13 +84,6 @@ place-lowest o (x ∷ xs) = step (occupied x) (place-lowest o xs)
     step : (b : Bool) → place o xs ≡ set xs (lowestFree xs) o → cond b (x ∷ place o xs) (o ∷ xs) ≡ set (x ∷ xs) (cond b (suc (lowestFree xs)) 0) o
     step true e = ap (λ l. x ∷ l) e
     step false e = refl
-
--- Sorting
-
--- two lists of the same numbers, none of them 0, sort to the same list
-pub sorted-ext : (l k : List ℕ) → ((n : ℕ) → n ∈ l → 0 < n) → ((n : ℕ) → n ∈ k → 0 < n) → ((n : ℕ) → n ∈ l → n ∈ k) → ((n : ℕ) → n ∈ k → n ∈ l) → sorted l ≡ sorted k
-sorted-ext l k p q f g =
-    rising-ext 0 (sorted l) (sorted k) (rising-sorted 0 l p) (rising-sorted 0 k q) (λ n i. in-sorted (f n (sorted-in l i))) (λ n i. in-sorted (g n (sorted-in k i)))
 
 -- The largest numbers of 64 bits
 

@@ -11,8 +11,11 @@ use lib.Dec.{leb, ltb, eqb}
 use lib.ListN.{length, getD, take, drop, replicate, drop-of-length-le, length-append, length-replicate, replicate-append-replicate}
 use lib.Seq.{drop-cons, take-at, drop-at, take-append-add, take-append-seam, drop-append-seam}
 use borrow.Author.Tests.{lt-leb, le-leb, leb-true, ne-eqb}
+use Rattle.rules.specs.declared.Kind.{Kind}
+use Rattle.rules.specs.Limits.{limits}
+use Rattle.rules.specs.Request.{Asked}
 use Rattle.rules.specs.Lists.{all, none, risingAbove}
-use Rattle.rules.specs.Typed.{padded, isPadded}
+use Rattle.rules.specs.Typed.{padded, isPadded, nameList, requestOf}
 use Rattle.rules.proofs.Lists.{and-left, and-both}
 
 -- ---- a list that is tested from the front: one element more, or none left
@@ -92,3 +95,7 @@ module _ (n : ℕ) (l : List ℕ) (short : length l ≤ n) where
       (and-both (leb (length l) (length (l ++ replicate (n - length l) 0))) (all (eqb 0) (drop (length l) (l ++ replicate (n - length l) 0)))
       (le-leb (length l) (length (l ++ replicate (n - length l) 0)) (omega (arith, length-append l (replicate (n - length l) 0))))
       (rw drop-append-seam (all-zeros (n - length l))))
+
+-- a step with a list in its places asks what it was made from
+pub list-asks : (t : ℕ) (k : Kind) (l : List ℕ) → length l ≤ limits .names → requestOf (record { time = t; kind = k; list = nameList l }) ≡ Asked t k l
+list-asks t k l h = rw (padded-said (limits .names) l h, padded-take (limits .names) l h)
