@@ -29,7 +29,7 @@ abbrev pub flag : Bool → ℕ
 flag true = 1
 flag false = 0
 
--- Out: clock, top name, occupancy word, 64 places, the count of manifests and nine places, the count of holds and eight places
+-- Out: clock, the highest number collected, occupancy word, 64 places, the count of manifests and nine places, the count of holds and eight places
 
 abbrev pub objectNumbers : Object → List ℕ
 objectNumbers o = o .number ∷ roleNumber (o .role) ∷ o .epoch ∷ o .currency ∷ flag (o .named) ∷ []
@@ -46,7 +46,7 @@ flat f (x ∷ xs) = f x ++ flat f xs
 
 unfoldable pub ledgerNumbers : Ledger → List ℕ
 ledgerNumbers l =
-    l .clock ∷ l .top ∷ l .objects .occupancy ∷ (flat objectNumbers (l .objects .items)
+    l .clock ∷ l .collected ∷ l .objects .occupancy ∷ (flat objectNumbers (l .objects .items)
     ++ (l .manifests .count ∷ (flat manifestNumbers (l .manifests .items)
     ++ (l .holds .count ∷ flat holdNumbers (l .holds .items)))))
 
@@ -83,7 +83,7 @@ abbrev pub holdsFrom : List ℕ → Holds
 holdsFrom v = record { count = getD v 504 0; items = each holdFrom 3 (limits .holds) (drop 505 v) }
 
 unfoldable pub ledgerFrom : List ℕ → Ledger
-ledgerFrom v = record { clock = getD v 0 0; top = getD v 1 0; objects = objectsFrom v; manifests = manifestsFrom v; holds = holdsFrom v }
+ledgerFrom v = record { clock = getD v 0 0; collected = getD v 1 0; objects = objectsFrom v; manifests = manifestsFrom v; holds = holdsFrom v }
 
 -- The calls
 

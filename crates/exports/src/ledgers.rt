@@ -175,10 +175,10 @@ pub fn ledger_from(v: &[u64]) -> Ledger
         items: rest,
     };
     let clock = v[0];
-    let top = v[1];
+    let collected = v[1];
     Ledger {
         clock,
-        top,
+        collected,
         objects,
         manifests,
         holds,
@@ -270,7 +270,7 @@ pub fn put_ledger(ledger: Ledger, out: &mut [u64])
     ensures { λ _. ⌜ now (out .exit) ≡ ledgerNumbers ledger ⌝ }
 {
     out[0] = ledger.clock;
-    out[1] = ledger.top;
+    out[1] = ledger.collected;
     let objects = ledger.objects;
     out[2] = objects.occupancy;
     let places = objects.items;

@@ -1,4 +1,4 @@
--- The week at the depot holds of the ledger's step, since it holds of the rules and the ledger is their layout.
+-- The tables of cases hold of the ledger's step, since they hold of the rules and the ledger is their layout.
 -- Assumes nothing.
 use mathlib.Core.Path.{_≡_, refl, sym, ap, subst, _∙_}
 use mathlib.Core.Bool.{Bool, true, false, _&&_, false≢true}
@@ -13,15 +13,16 @@ use Rattle.rules.specs.Request.{Request, Asked, Unreadable, Ask}
 use Rattle.rules.specs.Typed.{requestOf, verdictOf}
 use Rattle.rules.specs.Depot.{Case, starred, runs, week}
 use Rattle.rules.specs.Depot as rules
+use Rattle.rules.specs.OutOfOrder.{outOfOrder}
 use Rattle.rules.proofs.Lists.{and-left, and-right}
 use Rattle.rules.proofs.Typed.{list-asks}
 use Rattle.rules.proofs.Soundness.{sound-fresh, next-sound}
-use Rattle.rules.proofs.Depot.{week-holds}
+use Rattle.rules.proofs.Depot.{out-of-order-holds, week-holds}
 use Rattle.ledger.specs.declared.Ledger.{Ledger}
 use Rattle.ledger.specs.Ledger.{lay}
 use Rattle.ledger.specs.Step.{judged}
 use Rattle.ledger.specs.Demand3.{keptAfter}
-use Rattle.ledger.specs.Depot.{typed, after, Holds, WeekHolds}
+use Rattle.ledger.specs.Depot.{typed, after, Holds, OutOfOrderHolds, WeekHolds}
 use Rattle.ledger.proofs.Demand3.{verdict-laid, next-laid}
 
 -- a step whose list fits its places asks what it was made from
@@ -63,3 +64,7 @@ holds-laid s e (runs q ∷ cases) f h =
 pub week-on-ledger : WeekHolds
 unfolding allFit week
 week-on-ledger = holds-laid fresh (sound-fresh limits) week refl week-holds
+
+pub out-of-order-on-ledger : OutOfOrderHolds
+unfolding allFit outOfOrder
+out-of-order-on-ledger = holds-laid fresh (sound-fresh limits) outOfOrder refl out-of-order-holds

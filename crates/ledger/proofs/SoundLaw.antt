@@ -81,7 +81,7 @@ module _ (s : State) where
   pub view-lay : view (lay s) ≡ s
   view-lay = λ i. record {
     clock = s .clock;
-    top = s .top;
+    highestCollected = s .highestCollected;
     places = s .places;
     older = older-back i;
     current = current-back i;

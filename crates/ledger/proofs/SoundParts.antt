@@ -74,7 +74,7 @@ epoch-same : (r : Role) (m : KeptManifest) → epochOf r (manifestOf m) ≡ role
 epoch-same Writer m = refl
 epoch-same Compactor m = refl
 
-place-same : (l : Ledger) (o : Object) → placeSound (view l) o ≡ placeSoundBy (l .top) (currentOf (l .manifests) .writer) (currentOf (l .manifests) .compactor) o
+place-same : (l : Ledger) (o : Object) → placeSound (view l) o ≡ placeSoundBy (currentOf (l .manifests) .writer) (currentOf (l .manifests) .compactor) o
 unfolding placeSound objectSound placeSoundBy
 place-same l o = rw (epoch-same (o .role) (currentOf (l .manifests)))
 

@@ -67,7 +67,7 @@ kept-view l s p = sym (lists.split (l .manifests) (s .manifests) (p .manifests))
 pub laid-out : (l : Ledger) → Sized l → Laid l → lay (view l) ≡ l
 laid-out l s p = λ i. record {
   clock = l .clock;
-  top = l .top;
+  collected = l .collected;
   objects = places.laid-out (l .objects) (p .objects) i;
   manifests = (ap Rattle.manifests.specs.Manifests.layManifests (kept-view l s p) ∙ lists.laid-out (l .manifests) (s .manifests) (p .manifests)) i;
   holds = holds.laid-out (l .holds) (s .holds) (p .holds) i;

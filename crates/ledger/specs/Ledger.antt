@@ -13,13 +13,19 @@ use Rattle.ledger.specs.declared.Ledger.{Ledger}
 
 -- a state in its places: used places first, the others all zero, the occupancy word that of the places
 abbrev pub lay : State → Ledger
-lay s = record { clock = s .clock; top = s .top; objects = layPlaces (s .places); manifests = layManifests (kept s); holds = layHolds (s .holds) }
+lay s = record {
+  clock = s .clock;
+  collected = s .highestCollected;
+  objects = layPlaces (s .places);
+  manifests = layManifests (kept s);
+  holds = layHolds (s .holds);
+}
 
 -- what the places say
 abbrev pub view : Ledger → State
 view l = record {
   clock = l .clock;
-  top = l .top;
+  highestCollected = l .collected;
   places = l .objects .items;
   older = olderOf (l .manifests);
   current = manifestOf (currentOf (l .manifests));

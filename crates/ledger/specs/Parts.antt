@@ -16,10 +16,10 @@ use Rattle.manifests.specs.Manifests.{manifestsOf, olderOf, currentOf, hasNumbe
 use Rattle.holds.specs.Holds.{holdsOf, numbers}
 use Rattle.ledger.specs.declared.Ledger.{Ledger}
 
--- stored objects have distinct numbers up to the top name, and epochs up to their role's
+-- stored objects have distinct numbers, and epochs up to their role's
 unfoldable pub objectsSound : Ledger → Bool
 objectsSound l =
-    conj (all (placeSoundBy (l .top) (currentOf (l .manifests) .writer) (currentOf (l .manifests) .compactor)) (l .objects .items) ∷ distinct (numbersIn (l .objects .items)) ∷ [])
+    conj (all (placeSoundBy (currentOf (l .manifests) .writer) (currentOf (l .manifests) .compactor)) (l .objects .items) ∷ distinct (numbersIn (l .objects .items)) ∷ [])
 
 -- a list rises strictly without 0, and its objects are stored and marked as named
 unfoldable pub listSound : List Object → KeptManifest → Bool

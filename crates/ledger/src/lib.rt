@@ -15,8 +15,8 @@ use rules::Verdict;
 
 pub struct Ledger {
     pub clock: u64,
-    // the highest object number ever accepted
-    pub top: u64,
+    // the highest object number ever collected
+    pub collected: u64,
     pub objects: Objects,
     pub manifests: Manifests,
     pub holds: Holds,
@@ -40,7 +40,7 @@ impl Ledger {
 
     pub const CURRENCY: u16 = rules::LARGEST_CURRENCY;
 
-    // Clock 0, top name 0, no objects or holds, and manifest 0 with both epochs 0 and an empty list.
+    // Clock 0, nothing collected, no objects or holds, and manifest 0 with both epochs 0 and an empty list.
     pub fn fresh() -> Self
         ensures { λ r. ⌜ r ≡ lay fresh ⌝ }
     {
@@ -49,7 +49,7 @@ impl Ledger {
         let holds = Holds::none();
         Ledger {
             clock: 0,
-            top: 0,
+            collected: 0,
             objects,
             manifests,
             holds,

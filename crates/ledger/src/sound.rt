@@ -102,7 +102,7 @@ impl Ledger {
         let manifests = self.manifests;
         let current = manifests.current();
         let objects = self.objects;
-        if !objects.places_sound(self.top, current.writer, current.compactor) {
+        if !objects.places_sound(current.writer, current.compactor) {
             return false;
         }
         objects.is_distinct()

@@ -130,7 +130,7 @@ impl Ledger {
         if objects.is_stored(object) {
             return 9;
         }
-        if object <= self.top {
+        if object <= self.collected {
             return 10;
         }
         if objects.is_full() {
@@ -157,7 +157,6 @@ impl Ledger {
         self = self.settled(time);
         let places = self.objects;
         self.objects = places.put(o);
-        self.top = object;
         accepted(Answer::Done, self)
     }
 

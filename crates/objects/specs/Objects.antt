@@ -26,11 +26,11 @@ abbrev pub roleEpoch : Role → ℕ → ℕ → ℕ
 roleEpoch Writer writer compactor = writer
 roleEpoch Compactor writer compactor = compactor
 
--- row 1's test of a place, beside a top name and the current epochs
-unfoldable pub placeSoundBy : ℕ → ℕ → ℕ → Object → Bool
-placeSoundBy top writer compactor o =
+-- row 1's test of a place, beside the current epochs
+unfoldable pub placeSoundBy : ℕ → ℕ → Object → Bool
+placeSoundBy writer compactor o =
     cond (occupied o)
-    (conj (leb (o .number) top ∷ ltb 0 (o .epoch) ∷ leb (o .epoch) (roleEpoch (o .role) writer compactor) ∷ leb (o .currency) currencyLimit ∷ []))
+    (conj (ltb 0 (o .epoch) ∷ leb (o .epoch) (roleEpoch (o .role) writer compactor) ∷ leb (o .currency) currencyLimit ∷ []))
     (unused o)
 
 -- What is asked of the places: the stored objects are those that are taken

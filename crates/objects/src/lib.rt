@@ -164,14 +164,14 @@ impl Objects {
         self.occupancy == word
     }
 
-    // Whether each place is free and all zero, or holds an object that is sound beside this top name and these epochs.
-    pub fn places_sound(self, top: u64, writer: u64, compactor: u64) -> bool
-        ensures { λ r. ⌜ r ≡ all (placeSoundBy top writer compactor) (self .items) ⌝ }
+    // Whether each place is free and all zero, or holds an object that is sound beside these epochs.
+    pub fn places_sound(self, writer: u64, compactor: u64) -> bool
+        ensures { λ r. ⌜ r ≡ all (placeSoundBy writer compactor) (self .items) ⌝ }
     {
         let mut i: usize = 0;
         while i < PLACES {
             let o = self.items[i];
-            if !place_sound(o, top, writer, compactor) {
+            if !place_sound(o, writer, compactor) {
                 return false;
             }
             i += 1;
@@ -326,14 +326,11 @@ fn is_unused(object: Object) -> bool
     !object.named
 }
 
-fn place_sound(object: Object, top: u64, writer: u64, compactor: u64) -> bool
-    ensures { λ r. ⌜ r ≡ placeSoundBy top writer compactor object ⌝ }
+fn place_sound(object: Object, writer: u64, compactor: u64) -> bool
+    ensures { λ r. ⌜ r ≡ placeSoundBy writer compactor object ⌝ }
 {
     if object.number == 0 {
         return is_unused(object);
-    }
-    if top < object.number {
-        return false;
     }
     if object.epoch == 0 {
         return false;

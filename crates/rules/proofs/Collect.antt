@@ -14,7 +14,7 @@ use Rattle.rules.specs.History.{History, Stored, deadAt, deadObject, lis
 use Rattle.rules.specs.Limits.{Limits}
 use Rattle.rules.specs.Lists.{_∈_, has, keep, risingAbove}
 use Rattle.rules.specs.State.{State, free, objects, occupied}
-use Rattle.rules.specs.Step.{clear, collected, withPlaces}
+use Rattle.rules.specs.Step.{clear, collect, collected}
 use Rattle.rules.specs.Words.{dead}
 use Rattle.rules.proofs.Agreement.{dead-same}
 use Rattle.rules.proofs.Lists.{and-both, and-left, and-right, any-in, bool-ext, in-any, in-keep, keep-in}
@@ -80,7 +80,7 @@ collect-safe h safe n e =
     in-any (λ (p : Stored). eqb n (p .number)) (in-keep (λ p. not (deadObject (h .time) h p)) (k .1) (spared (h .time) h (k .0) (ap (listedAt (h .time) h) (sym q) ∙ e))) (k .2)
 
 pub collect-keeps : {L : Limits} (s : State) (h : History) → Agrees L s h
-    → Agrees L (withPlaces s (map (clear (s .clock) s) (s .places))) (withObjects h (keep (λ p. not (deadObject (h .time) h p)) (h .objects)))
+    → Agrees L (collect s) (withObjects h (keep (λ p. not (deadObject (h .time) h p)) (h .objects)))
 collect-keeps s h r = record {
   clock = r .clock;
   number = r .number;

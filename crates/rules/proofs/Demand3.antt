@@ -99,14 +99,14 @@ epoch-time : (t : ℕ) (h : History) (role : Role) → epochAt role (atTime t h)
 epoch-time t h Writer = refl
 epoch-time t h Compactor = refl
 
-dead-time : (t : ℕ) (h : History) (n : ℕ) → deadAt t (atTime t h) n ≡ deadAt t h n
+pub dead-time : (t : ℕ) (h : History) (n : ℕ) → deadAt t (atTime t h) n ≡ deadAt t h n
 unfolding deadAt deadObject pendingAt listedAt
 dead-time t h n = any-same _ _ (h .objects) (λ p i.
     ap (λ e. eqb n (p .number) && (not (eqb (p .epoch) e && not (namedAbove (p .since) (p .number) (lists h))) && not (listedAt t h (p .number)))) (epoch-time t h (p .role)))
 
 module _ (L : Limits) (test : State → Bool) where
   -- a request that is accepted keeps the agreement
-  request-keeps : (s : State) (h : History) (q : Request) → Clear (rowsOf L test s q) → Agrees L s h → Agrees L (effect q s) (notedOf q h)
+  pub request-keeps : (s : State) (h : History) (q : Request) → Clear (rowsOf L test s q) → Agrees L s h → Agrees L (effect q s) (notedOf q h)
   request-keeps s h (Asked t k l) f r = tidy-keeps _ _ (act-keeps t l s h (settle-keeps t s h (row3-clear L s t k l (f .1)) r) k (f .1))
   request-keeps s h Unreadable f r = r
 

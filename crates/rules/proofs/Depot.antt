@@ -1,4 +1,4 @@
--- The week at the depot holds of the rules, by computation.
+-- The tables of cases hold of the rules, by computation.
 -- Assumes nothing.
 use mathlib.Core.Path.{refl}
 use Rattle.rules.specs.Lists.{conj, keep, any, all, none, lookup, has, risingAbove, distinct, insert, sorted, maximum}
@@ -7,7 +7,12 @@ use Rattle.rules.specs.Table.{wellFormed, rows, firstOf}
 use Rattle.rules.specs.Sound.{unused, objectSound, placeSound, ordered, nameSound, manifestSound, holdSound, isHeld, sound}
 use Rattle.rules.specs.Step.{place, insertHold, act, collected, answers, verdict, reply, accepts, next}
 use Rattle.rules.specs.Depot.{Holds, week, WeekHolds}
+use Rattle.rules.specs.OutOfOrder.{outOfOrder, OutOfOrderHolds}
 
 pub week-holds : WeekHolds
 unfolding Holds week conj keep any all none lookup has risingAbove distinct insert sorted maximum live isLive active stored currencyOf ofCurrency manifestOf readBy pending listed dead compacted wellFormed rows firstOf unused objectSound placeSound ordered nameSound manifestSound holdSound isHeld sound place insertHold act collected answers verdict reply accepts next
 week-holds = (refl, (refl, (refl, (refl, (refl, (refl, (refl, (refl, (refl, (refl, (refl, (refl, (refl, tt)))))))))))))
+
+pub out-of-order-holds : OutOfOrderHolds
+unfolding Holds outOfOrder conj keep any all none lookup has risingAbove distinct insert sorted maximum live isLive active stored currencyOf ofCurrency manifestOf readBy pending listed dead compacted wellFormed rows firstOf unused objectSound placeSound ordered nameSound manifestSound holdSound isHeld sound place insertHold act collected answers verdict reply accepts next
+out-of-order-holds = (refl, (refl, (refl, (refl, (refl, (refl, (refl, (refl, (refl, (refl, (refl, (refl, (refl, (refl, (refl, tt)))))))))))))))

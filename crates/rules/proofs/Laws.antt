@@ -11,9 +11,9 @@ use lib.ListN.{set}
 use borrow.Author.Tests.{le-leb, eq-eqb, eqb-true}
 use Rattle.rules.specs.declared.Hold.{Hold}
 use Rattle.rules.specs.declared.Object.{Object}
-use Rattle.rules.specs.Lists.{_∈_, has, keep, lookup, sorted}
+use Rattle.rules.specs.Lists.{_∈_, has, keep, lookup, maximum, sorted}
 use Rattle.rules.specs.State.{Manifest, State, firstManifest, free, kept, objects, occupied}
-use Rattle.rules.specs.Step.{clear, collected, heldBy, place, publish, tidy, withPlaces}
+use Rattle.rules.specs.Step.{clear, collect, collected, heldBy, place, publish, tidy}
 use Rattle.rules.specs.Table.{row10, row6, row9}
 use Rattle.rules.specs.Words.{dead, listed, live, liveHolds, manifestOf, pending, stored}
 use Rattle.rules.proofs.Lists.{and-both, any-same, decide, in-any, keep-in, keep-same, true-false}
@@ -50,11 +50,15 @@ dead-tidy t s o =
     ap (λ b. not (pending s o) && not (has (o .number) (s .current .names) || b))
     (any-same _ _ (liveHolds t s) (λ x i. ap (λ (m : Manifest). has (o .number) (m .names)) (manifest-tidy s x (keep-in (live t) (s .holds) i .0))))
 
+pub collected-tidy : (t : ℕ) (s : State) → collected t (tidy s) ≡ collected t s
+unfolding collected
+collected-tidy t s = ap (λ os. sorted (map (λ (o : Object). o .number) os)) (keep-same _ _ (objects s) (λ o i. dead-tidy t s o))
+
 -- a collection may run after the inactive manifests are dropped
-pub collect-tidy : (s : State) → tidy (withPlaces s (map (clear (s .clock) s) (s .places))) ≡ withPlaces (tidy s) (map (clear (s .clock) (tidy s)) (s .places))
+pub collect-tidy : (s : State) → tidy (collect s) ≡ collect (tidy s)
 collect-tidy s = λ i. record {
   clock = s .clock;
-  top = s .top;
+  highestCollected = maximum (s .highestCollected ∷ sym (collected-tidy (s .clock) s) i);
   places = same (s .places) i;
   older = keep (heldBy (s .holds)) (s .older);
   current = s .current;
@@ -64,10 +68,6 @@ collect-tidy s = λ i. record {
     same : (ps : List Object) → map (clear (s .clock) s) ps ≡ map (clear (s .clock) (tidy s)) ps
     same [] = refl
     same (o ∷ os) = ap₂ _∷_ (ap (λ b. cond b free o) (sym (dead-tidy (s .clock) s o))) (same os)
-
-pub collected-tidy : (t : ℕ) (s : State) → collected t (tidy s) ≡ collected t s
-unfolding collected
-collected-tidy t s = ap (λ os. sorted (map (λ (o : Object). o .number) os)) (keep-same _ _ (objects s) (λ o i. dead-tidy t s o))
 
 -- Places
 
@@ -90,11 +90,3 @@ place-lowest o (x ∷ xs) = step (occupied x) (place-lowest o xs)
 -- "At manifest 2^64-1 every slot gives 6"
 pub last-slot : (s : State) (slot : ℕ) → suc (s .current .number) ≡ 2 ^ 64 → slot < 2 ^ 64 → row6 s slot ≡ true
 last-slot s slot e h = le-leb slot (s .current .number) (omega arith)
-
--- "After a PUT of 2^64-1 every PUT gives 9 or 10"
-pub last-name : (s : State) (n : ℕ) → suc (s .top) ≡ 2 ^ 64 → n < 2 ^ 64 → (row9 s n ≡ true) ⊎ (row10 s n ≡ true)
-last-name s n e h = step (decide (stored s n))
-  where
-    step : (stored s n ≡ true) ⊎ (stored s n ≡ false) → (row9 s n ≡ true) ⊎ (row10 s n ≡ true)
-    step (inl q) = inl q
-    step (inr q) = inr (and-both (leb n (s .top)) _ (le-leb n (s .top) (omega arith)) (ap not q))

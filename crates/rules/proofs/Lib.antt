@@ -21,6 +21,7 @@ pub mod Pigeonhole
 pub mod Bounds
 pub mod Commit
 pub mod Depot
+pub mod WriteOnce
 pub mod Counted
 pub mod Whole
 pub mod Laws

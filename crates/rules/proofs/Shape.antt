@@ -20,8 +20,7 @@ use Rattle.rules.specs.Step.{place}
 use Rattle.rules.specs.Words.{live}
 use Rattle.rules.proofs.Lists.{all-in, and-both, and-left, and-right, any-in, conj-true, in-all, in-any, in-keep, keep-in, true-conj}
 
-pub record ObjectOk (top : ℕ) (current : Manifest) (o : Object) : Type 0 where
-  pub number : o .number ≤ top
+pub record ObjectOk (current : Manifest) (o : Object) : Type 0 where
   pub given : 0 < o .epoch
   pub epoch : o .epoch ≤ epochOf (o .role) current
   pub currency : o .currency ≤ currencyLimit
@@ -39,7 +38,7 @@ holdNumbers xs = map (λ (x : Hold). x .number) xs
 pub record Shape (L : Limits) (s : State) : Type 0 where
   pub size : length (s .places) ≡ L .places
   pub unused : (o : Object) → o ∈ s .places → occupied o ≡ false → o ≡ free
-  pub stored : (o : Object) → o ∈ objects s → ObjectOk (s .top) (s .current) o
+  pub stored : (o : Object) → o ∈ objects s → ObjectOk (s .current) o
   pub distinct : distinct (numbers (objects s)) ≡ true
   pub ordered : ordered 0 0 0 (kept s) ≡ true
   pub rising : (m : Manifest) → m ∈ kept s → risingAbove 0 (m .names) ≡ true
@@ -76,20 +75,15 @@ unfolding unused conj
 free-unused = refl
 
 module _ (L : Limits) (s : State) where
-  object-ok : (o : Object) → objectSound s o ≡ true → ObjectOk (s .top) (s .current) o
+  object-ok : (o : Object) → objectSound s o ≡ true → ObjectOk (s .current) o
   unfolding objectSound
   object-ok o e =
       let f = conj-true _ e in
-      record {
-        number = leb-true _ _ (f .0);
-        given = ltb-true _ _ (f .1 .0);
-        epoch = leb-true _ _ (f .1 .1 .0);
-        currency = leb-true _ _ (f .1 .1 .1 .0);
-      }
+      record { given = ltb-true _ _ (f .0); epoch = leb-true _ _ (f .1 .0); currency = leb-true _ _ (f .1 .1 .0) }
 
-  ok-object : (o : Object) → ObjectOk (s .top) (s .current) o → objectSound s o ≡ true
+  ok-object : (o : Object) → ObjectOk (s .current) o → objectSound s o ≡ true
   unfolding objectSound
-  ok-object o k = true-conj _ (le-leb _ _ (k .number), (lt-ltb _ _ (k .given), (le-leb _ _ (k .epoch), (le-leb _ _ (k .currency), tt))))
+  ok-object o k = true-conj _ (lt-ltb _ _ (k .given), (le-leb _ _ (k .epoch), (le-leb _ _ (k .currency), tt)))
 
   place-object : (o : Object) → placeSound s o ≡ true → occupied o ≡ true → objectSound s o ≡ true
   unfolding placeSound

@@ -11,7 +11,7 @@ use Rattle.rules.specs.Limits.{Limits}
 use Rattle.rules.specs.Lists.{_∈_, distinct, has, keep}
 use Rattle.rules.specs.Sound.{ordered}
 use Rattle.rules.specs.State.{Manifest, State, firstManifest, free, kept, objects, occupied}
-use Rattle.rules.specs.Step.{clear, withPlaces}
+use Rattle.rules.specs.Step.{clear, collect}
 use Rattle.rules.specs.Words.{dead, listed, live, manifestOf, pending, stored}
 use Rattle.rules.proofs.Collect.{clear-from, clear-to}
 use Rattle.rules.proofs.Lists.{in-any, in-keep, lookup-in, or-left, or-right}
@@ -61,7 +61,7 @@ module _ {L : Limits} (s : State) (r : Shape L s) where
       or-right (has n (s .current .names)) _ (in-any (λ (x : Hold). has n (manifestOf s (x .manifest) .names)) (in-keep (live (s .clock)) i (r .alive x i))
       (ap (λ (m : Manifest). has n (m .names)) e ∙ in-has k))
 
-  pub collect-shape : Shape L (withPlaces s (map (clear (s .clock) s) (s .places)))
+  pub collect-shape : Shape L (collect s)
   collect-shape = record {
     size = length-map (s .places) (clear (s .clock) s) ∙ r .size;
     unused = λ o i z. let m = Memᴰ·of-map (clear (s .clock) s) (s .places) i in empty o z (m .0) (m .1) (dead (s .clock) s (m .0)) (m .2);

@@ -72,8 +72,7 @@ module _ {L : Limits} (s : State) (r : Shape L s) (w c : ℕ) (l : List ℕ) (up
     unused = λ o i z. let m = Memᴰ·of-map (mark l) (s .places) i in
         sym (m .2) ∙ ap (mark l) (r .unused (m .0) (m .1) (ap occupied (m .2) ∙ z)) ∙ marked-free;
     stored = λ o i. let m = mark-from l (s .places) o i in let k = r .stored (m .0) (m .1) in
-        subst (ObjectOk (s .top) new) (m .2) (record {
-          number = k .number;
+        subst (ObjectOk new) (m .2) (record {
           given = k .given;
           epoch = let a = k .epoch in let b = epoch-grows w c (s .current) new up up′ (m .0 .role) in omega arith;
           currency = k .currency;

@@ -59,8 +59,8 @@ place-distinct o (x ∷ xs) t new e = step (occupied x) refl new e (place-distin
         absent (inr p) = p
     step false q new e f = subst (λ b. distinct (numbers (cond b (o ∷ K) K)) ≡ true) (sym t) (and-both _ _ (ap not new) e)
 
-module _ {L : Limits} (s : State) (r : Shape L s) (o : Object) (used : occupied o ≡ true) (new : stored s (o .number) ≡ false) (above : s .top < o .number)
-    (ok : ObjectOk (o .number) (s .current) o) where
+module _ {L : Limits} (s : State) (r : Shape L s) (o : Object) (used : occupied o ≡ true) (new : stored s (o .number) ≡ false)
+    (ok : ObjectOk (s .current) o) where
   put-to : (q : Object) → q ∈ objects s → q ∈ keep occupied (place o (s .places))
   put-to q i = let k = keep-in occupied (s .places) i in in-keep occupied (place-to o q (s .places) (k .0) (k .1)) (k .1)
 
@@ -97,7 +97,6 @@ module _ {L : Limits} (s : State) (r : Shape L s) (o : Object) (used : occupied 
       empty q z (inl e) = true-false (occupied o) used (ap occupied (sym e) ∙ z)
       empty q z (inr i) = r .unused q i z
 
-      sound : (q : Object) → occupied q ≡ true → (q ≡ o) ⊎ (q ∈ s .places) → ObjectOk (o .number) (s .current) q
-      sound q t (inl e) = subst (ObjectOk (o .number) (s .current)) (sym e) ok
-      sound q t (inr i) = let k = r .stored q (in-keep occupied i t) in
-          record { number = let a = k .number in omega arith; given = k .given; epoch = k .epoch; currency = k .currency }
+      sound : (q : Object) → occupied q ≡ true → (q ≡ o) ⊎ (q ∈ s .places) → ObjectOk (s .current) q
+      sound q t (inl e) = subst (ObjectOk (s .current)) (sym e) ok
+      sound q t (inr i) = r .stored q (in-keep occupied i t)

@@ -95,20 +95,14 @@ compact-shape s r n pos there some =
     step m (inl q) = ap (stored s) q ∙ there
     step m (inr j) = names-stored s r m (keep-in out (s .current .names) j .0)
 
-and-not-false : (a b : Bool) → (a && not b) ≡ false → b ≡ false → a ≡ false
-and-not-false true b e f = absurd (false≢true (sym e ∙ ap not f))
-and-not-false false b e f = refl
-
 -- each kind keeps the shape, where no row applies
 act-shape : {L : Limits} (t : ℕ) (l : List ℕ) (s : State) → Shape L (settle t s) → (k : Kind) → Clear (rows L s t k l) → Shape L (act k l (settle t s))
 unfolding rows wellFormed act isLive stored live currencyOf ofCurrency
 act-shape t l s r (FENCE role slot) f = fence-shape _ r role
 act-shape t l s r (PUT role e n c) f =
     let w = conj-true _ (passed _ (f .0)) in
-    let above = leb-false n (s .top) (and-not-false (leb n (s .top)) _ (f .1 .1 .1 .1 .0) (f .1 .1 .1 .0)) in
-    put-shape _ r (record { number = n; role = role; epoch = e; currency = c; named = false }) (w .1 .0) (f .1 .1 .1 .0) above
+    put-shape _ r (record { number = n; role = role; epoch = e; currency = c; named = false }) (w .1 .0) (f .1 .1 .1 .0)
     (record {
-      number = omega arith;
       given = positive e (ap not (or-false-left (eqb e 0) _ (f .1 .1 .0)));
       epoch = ltb-false (epochOf role (s .current)) e (or-false-right (eqb e 0) _ (f .1 .1 .0));
       currency = leb-true c currencyLimit (w .1 .1 .0);

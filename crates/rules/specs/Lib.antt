@@ -12,3 +12,5 @@ pub mod Typed
 pub mod Verdict
 pub mod Demand3
 pub mod Depot
+pub mod WriteOnce
+pub mod OutOfOrder

@@ -22,9 +22,10 @@ isWriter Compactor = false
 unfoldable pub unused : Object → Bool
 unused o = conj (eqb (o .number) 0 ∷ isWriter (o .role) ∷ eqb (o .epoch) 0 ∷ eqb (o .currency) 0 ∷ not (o .named) ∷ [])
 
--- a number "from 1 to the top name, and an epoch from 1 to their role's current epoch"; "currency (.. 0 to 999 ..)"
+-- "an epoch from 1 to their role's current epoch"; "currency (.. 0 to 999 ..)"; of the number "only that they are distinct and not 0"
+-- (document 02, request 1), which `sound` and `occupied` ask
 unfoldable pub objectSound : State → Object → Bool
-objectSound s o = conj (leb (o .number) (s .top) ∷ ltb 0 (o .epoch) ∷ leb (o .epoch) (epochOf (o .role) (s .current)) ∷ leb (o .currency) currencyLimit ∷ [])
+objectSound s o = conj (ltb 0 (o .epoch) ∷ leb (o .epoch) (epochOf (o .role) (s .current)) ∷ leb (o .currency) currencyLimit ∷ [])
 
 unfoldable pub placeSound : State → Object → Bool
 placeSound s o = cond (occupied o) (objectSound s o) (unused o)

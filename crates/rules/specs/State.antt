@@ -20,11 +20,11 @@ pub record Manifest : Type 0 where
   pub compactorEpoch : ℕ
   pub names : List ℕ
 
--- top: "Top name: the highest object number ever accepted"; places: a free one is all zero;
--- older: the kept manifests before the current one, in rising number; holds: what 000 calls snapshots
+-- highestCollected: "the highest number ever collected, .. 0 at first" (document 02, request 1, in place of document 01's top name);
+-- places: a free one is all zero; older: the kept manifests before the current one, in rising number; holds: what 000 calls snapshots
 pub record State : Type 0 where
   pub clock : ℕ
-  pub top : ℕ
+  pub highestCollected : ℕ
   pub places : List Object
   pub older : List Manifest
   pub current : Manifest
@@ -36,9 +36,9 @@ free = record { number = 0; role = Writer; epoch = 0; currency = 0; named = fals
 abbrev pub firstManifest : Manifest
 firstManifest = record { number = 0; writerEpoch = 0; compactorEpoch = 0; names = [] }
 
--- "The fresh ledger is the one with clock 0, top name 0, no objects or holds, and manifest 0 with both epochs 0 and an empty list"
+-- "The fresh ledger is the one with clock 0, .. no objects or holds, and manifest 0 with both epochs 0 and an empty list"; nothing was collected
 abbrev pub freshIn : Limits → State
-freshIn L = record { clock = 0; top = 0; places = replicate (L .places) free; older = []; current = firstManifest; holds = [] }
+freshIn L = record { clock = 0; highestCollected = 0; places = replicate (L .places) free; older = []; current = firstManifest; holds = [] }
 
 abbrev pub fresh : State
 fresh = freshIn limits

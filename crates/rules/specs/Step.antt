@@ -23,14 +23,14 @@ use Rattle.rules.specs.Table.{Row, _if_, rows, firstOf}
 -- What an accepted step does: "sets the clock to its time, removes expired holds, acts, then removes manifests that are no longer active"
 
 abbrev pub withPlaces : State → List Object → State
-withPlaces s ps = record { clock = s .clock; top = s .top; places = ps; older = s .older; current = s .current; holds = s .holds }
+withPlaces s ps = record { clock = s .clock; highestCollected = s .highestCollected; places = ps; older = s .older; current = s .current; holds = s .holds }
 
 abbrev pub withHolds : State → List Hold → State
-withHolds s xs = record { clock = s .clock; top = s .top; places = s .places; older = s .older; current = s .current; holds = xs }
+withHolds s xs = record { clock = s .clock; highestCollected = s .highestCollected; places = s .places; older = s .older; current = s .current; holds = xs }
 
 -- the clock is set and expired holds go
 abbrev pub settle : ℕ → State → State
-settle t s = record { clock = t; top = s .top; places = s .places; older = s .older; current = s .current; holds = liveHolds t s }
+settle t s = record { clock = t; highestCollected = s .highestCollected; places = s .places; older = s .older; current = s .current; holds = liveHolds t s }
 
 -- a hold names this manifest
 abbrev pub heldBy : List Hold → Manifest → Bool
@@ -38,7 +38,7 @@ heldBy xs m = any (λ x. eqb (m .number) (x .manifest)) xs
 
 -- manifests that are no longer active go
 abbrev pub tidy : State → State
-tidy s = record { clock = s .clock; top = s .top; places = s .places; older = keep (heldBy (s .holds)) (s .older); current = s .current; holds = s .holds }
+tidy s = record { clock = s .clock; highestCollected = s .highestCollected; places = s .places; older = keep (heldBy (s .holds)) (s .older); current = s .current; holds = s .holds }
 
 -- an object that the list names is marked as named
 abbrev pub mark : List ℕ → Object → Object
@@ -48,7 +48,7 @@ mark l o = record { number = o .number; role = o .role; epoch = o .epoch; curren
 abbrev pub publish : ℕ → ℕ → List ℕ → State → State
 publish w c l s = record {
   clock = s .clock;
-  top = s .top;
+  highestCollected = s .highestCollected;
   places = map (mark l) (s .places);
   older = kept s;
   current = record { number = suc (s .current .number); writerEpoch = w; compactorEpoch = c; names = l };
@@ -69,9 +69,8 @@ unfoldable pub place : Object → List Object → List Object
 place o [] = []
 place o (x ∷ xs) = cond (occupied x) (x ∷ place o xs) (o ∷ xs)
 
--- the object put is the highest ever accepted
 abbrev pub put : Object → State → State
-put o s = record { clock = s .clock; top = o .number; places = place o (s .places); older = s .older; current = s .current; holds = s .holds }
+put o s = withPlaces s (place o (s .places))
 
 -- a hold goes in by rising number
 unfoldable pub insertHold : Hold → List Hold → List Hold
@@ -93,6 +92,17 @@ clear t s o = cond (dead t s o) free o
 unfoldable pub collected : ℕ → State → List ℕ
 collected t s = sorted (map (λ o. o .number) (keep (dead t s) (objects s)))
 
+-- the dead objects go, and the highest number ever collected is that of them all
+abbrev pub collect : State → State
+collect s = record {
+  clock = s .clock;
+  highestCollected = maximum (s .highestCollected ∷ collected (s .clock) s);
+  places = map (clear (s .clock) s) (s .places);
+  older = s .older;
+  current = s .current;
+  holds = s .holds;
+}
+
 -- what each kind does, at the clock's time
 unfoldable pub act : Kind → List ℕ → State → State
 act (FENCE r slot) l s = fence r s
@@ -104,7 +114,7 @@ act (RENEW x e) l s = withHolds s (map (renewed x e) (s .holds))
 act (RELEASE x) l s = withHolds s (keep (other x) (s .holds))
 act (LIST x) l s = s
 act (LOOK c x) l s = s
-act COLLECT l s = withPlaces s (map (clear (s .clock) s) (s .places))
+act COLLECT l s = collect s
 
 -- What a step is answered: an answer and the list beside it
 

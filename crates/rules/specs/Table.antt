@@ -67,9 +67,10 @@ row8 s l = any (λ n. not (stored s n)) l
 abbrev pub row9 : State → ℕ → Bool
 row9 s n = stored s n
 
--- "PUT: number at most the top name and not stored": with row 9 a name is written once (000)
+-- "exactly when the number isn't stored and is at most the highest number ever collected" (document 02, request 1): with row 9 a name is written once
+-- (000; claimed in WriteOnce.antt), and 12 may arrive before 11
 abbrev pub row10 : State → ℕ → Bool
-row10 s n = leb n (s .top) && not (stored s n)
+row10 s n = leb n (s .highestCollected) && not (stored s n)
 
 -- "PUT: 64 objects stored"
 abbrev pub row11 : Limits → State → Bool

@@ -14,16 +14,16 @@ part-put-objects-end : tie.Need-part-put-objects-end
 part-put-objects-end c =
     let out = c .before .before .before .args .out .now in
     let led = c .before .before .before .args .ledger in
-    let o1 = set (set (set out 0 (led .clock)) 1 (led .top)) 2 (led .objects .occupancy) in
-    let e1 : length o1 ≡ length out = length-set (set (set out 0 (led .clock)) 1 (led .top)) 2 (led .objects .occupancy) ∙ length-set (set out 0 (led .clock)) 1 (led .top) ∙ length-set out 0 (led .clock) in
+    let o1 = set (set (set out 0 (led .clock)) 1 (led .collected)) 2 (led .objects .occupancy) in
+    let e1 : length o1 ≡ length out = length-set (set (set out 0 (led .clock)) 1 (led .collected)) 2 (led .objects .occupancy) ∙ length-set (set out 0 (led .clock)) 1 (led .collected) ∙ length-set out 0 (led .clock) in
     omega (arith, e1)
 
 slice-write-out-4 : tie.Need-slice-write-out-4
 slice-write-out-4 c =
     let out = c .before .before .before .before .before .before .before .before .args .out .now in
     let led = c .before .before .before .before .before .before .before .before .args .ledger in
-    let o1 = set (set (set out 0 (led .clock)) 1 (led .top)) 2 (led .objects .occupancy) in
-    let e1 : length o1 ≡ length out = length-set (set (set out 0 (led .clock)) 1 (led .top)) 2 (led .objects .occupancy) ∙ length-set (set out 0 (led .clock)) 1 (led .top) ∙ length-set out 0 (led .clock) in
+    let o1 = set (set (set out 0 (led .clock)) 1 (led .collected)) 2 (led .objects .occupancy) in
+    let e1 : length o1 ≡ length out = length-set (set (set out 0 (led .clock)) 1 (led .collected)) 2 (led .objects .occupancy) ∙ length-set (set out 0 (led .clock)) 1 (led .collected) ∙ length-set out 0 (led .clock) in
     let y2 = c .before .before .before .put-objects in
     let o2 = putMid 3 320 o1 (y2 .last .1 .0) in
     let e2 : length o2 ≡ length out = same-len-mid 3 320 o1 (y2 .last .1 .0) (y2 .kept .1 .0) ∙ e1 in
@@ -33,8 +33,8 @@ part-put-manifests-end : tie.Need-part-put-manifests-end
 part-put-manifests-end c =
     let out = c .before .before .before .before .before .before .before .before .before .args .out .now in
     let led = c .before .before .before .before .before .before .before .before .before .args .ledger in
-    let o1 = set (set (set out 0 (led .clock)) 1 (led .top)) 2 (led .objects .occupancy) in
-    let e1 : length o1 ≡ length out = length-set (set (set out 0 (led .clock)) 1 (led .top)) 2 (led .objects .occupancy) ∙ length-set (set out 0 (led .clock)) 1 (led .top) ∙ length-set out 0 (led .clock) in
+    let o1 = set (set (set out 0 (led .clock)) 1 (led .collected)) 2 (led .objects .occupancy) in
+    let e1 : length o1 ≡ length out = length-set (set (set out 0 (led .clock)) 1 (led .collected)) 2 (led .objects .occupancy) ∙ length-set (set out 0 (led .clock)) 1 (led .collected) ∙ length-set out 0 (led .clock) in
     let y2 = c .before .before .before .before .put-objects in
     let o2 = putMid 3 320 o1 (y2 .last .1 .0) in
     let e2 : length o2 ≡ length out = same-len-mid 3 320 o1 (y2 .last .1 .0) (y2 .kept .1 .0) ∙ e1 in
@@ -46,8 +46,8 @@ slice-write-out-5 : tie.Need-slice-write-out-5
 slice-write-out-5 c =
     let out = c .before .before .before .before .before .before .before .before .before .before .before .before .before .before .args .out .now in
     let led = c .before .before .before .before .before .before .before .before .before .before .before .before .before .before .args .ledger in
-    let o1 = set (set (set out 0 (led .clock)) 1 (led .top)) 2 (led .objects .occupancy) in
-    let e1 : length o1 ≡ length out = length-set (set (set out 0 (led .clock)) 1 (led .top)) 2 (led .objects .occupancy) ∙ length-set (set out 0 (led .clock)) 1 (led .top) ∙ length-set out 0 (led .clock) in
+    let o1 = set (set (set out 0 (led .clock)) 1 (led .collected)) 2 (led .objects .occupancy) in
+    let e1 : length o1 ≡ length out = length-set (set (set out 0 (led .clock)) 1 (led .collected)) 2 (led .objects .occupancy) ∙ length-set (set out 0 (led .clock)) 1 (led .collected) ∙ length-set out 0 (led .clock) in
     let y2 = c .before .before .before .before .before .before .before .before .before .put-objects in
     let o2 = putMid 3 320 o1 (y2 .last .1 .0) in
     let e2 : length o2 ≡ length out = same-len-mid 3 320 o1 (y2 .last .1 .0) (y2 .kept .1 .0) ∙ e1 in
@@ -62,8 +62,8 @@ part-put-holds-end : tie.Need-part-put-holds-end
 part-put-holds-end c =
     let out = c .before .before .before .before .before .before .before .before .before .before .before .before .before .before .before .args .out .now in
     let led = c .before .before .before .before .before .before .before .before .before .before .before .before .before .before .before .args .ledger in
-    let o1 = set (set (set out 0 (led .clock)) 1 (led .top)) 2 (led .objects .occupancy) in
-    let e1 : length o1 ≡ length out = length-set (set (set out 0 (led .clock)) 1 (led .top)) 2 (led .objects .occupancy) ∙ length-set (set out 0 (led .clock)) 1 (led .top) ∙ length-set out 0 (led .clock) in
+    let o1 = set (set (set out 0 (led .clock)) 1 (led .collected)) 2 (led .objects .occupancy) in
+    let e1 : length o1 ≡ length out = length-set (set (set out 0 (led .clock)) 1 (led .collected)) 2 (led .objects .occupancy) ∙ length-set (set out 0 (led .clock)) 1 (led .collected) ∙ length-set out 0 (led .clock) in
     let y2 = c .before .before .before .before .before .before .before .before .before .before .put-objects in
     let o2 = putMid 3 320 o1 (y2 .last .1 .0) in
     let e2 : length o2 ≡ length out = same-len-mid 3 320 o1 (y2 .last .1 .0) (y2 .kept .1 .0) ∙ e1 in
@@ -80,8 +80,8 @@ same-length : tie.Need-same-length
 same-length c =
     let out = c .before .before .before .before .before .before .before .before .before .before .before .before .before .before .before .before .before .before .before .args .out .now in
     let led = c .before .before .before .before .before .before .before .before .before .before .before .before .before .before .before .before .before .before .before .args .ledger in
-    let o1 = set (set (set out 0 (led .clock)) 1 (led .top)) 2 (led .objects .occupancy) in
-    let e1 : length o1 ≡ length out = length-set (set (set out 0 (led .clock)) 1 (led .top)) 2 (led .objects .occupancy) ∙ length-set (set out 0 (led .clock)) 1 (led .top) ∙ length-set out 0 (led .clock) in
+    let o1 = set (set (set out 0 (led .clock)) 1 (led .collected)) 2 (led .objects .occupancy) in
+    let e1 : length o1 ≡ length out = length-set (set (set out 0 (led .clock)) 1 (led .collected)) 2 (led .objects .occupancy) ∙ length-set (set out 0 (led .clock)) 1 (led .collected) ∙ length-set out 0 (led .clock) in
     let y2 = c .before .before .before .before .before .before .before .before .before .before .before .before .before .before .put-objects in
     let o2 = putMid 3 320 o1 (y2 .last .1 .0) in
     let e2 : length o2 ≡ length out = same-len-mid 3 320 o1 (y2 .last .1 .0) (y2 .kept .1 .0) ∙ e1 in
@@ -102,8 +102,8 @@ unfolding ledgerNumbers
 returns c =
     let out = c .before .before .before .before .before .before .before .before .before .before .before .before .before .before .before .before .before .before .before .args .out .now in
     let led = c .before .before .before .before .before .before .before .before .before .before .before .before .before .before .before .before .before .before .before .args .ledger in
-    let o1 = set (set (set out 0 (led .clock)) 1 (led .top)) 2 (led .objects .occupancy) in
-    let e1 : length o1 ≡ length out = length-set (set (set out 0 (led .clock)) 1 (led .top)) 2 (led .objects .occupancy) ∙ length-set (set out 0 (led .clock)) 1 (led .top) ∙ length-set out 0 (led .clock) in
+    let o1 = set (set (set out 0 (led .clock)) 1 (led .collected)) 2 (led .objects .occupancy) in
+    let e1 : length o1 ≡ length out = length-set (set (set out 0 (led .clock)) 1 (led .collected)) 2 (led .objects .occupancy) ∙ length-set (set out 0 (led .clock)) 1 (led .collected) ∙ length-set out 0 (led .clock) in
     let y2 = c .before .before .before .before .before .before .before .before .before .before .before .before .before .before .put-objects in
     let o2 = putMid 3 320 o1 (y2 .last .1 .0) in
     let e2 : length o2 ≡ length out = same-len-mid 3 320 o1 (y2 .last .1 .0) (y2 .kept .1 .0) ∙ e1 in
@@ -119,7 +119,7 @@ returns c =
     let h2 : length (y2 .last .1 .0) ≡ 320 = y2 .kept .1 .0 ∙ mid-len 3 323 o1 (omega (arith, e1, full)) in
     let h4 : length (y4 .last .1 .0) ≡ 180 = y4 .kept .1 .0 ∙ mid-len 324 504 o3 (omega (arith, e3, full)) in
     let h6 : length (y6 .last .1 .0) ≡ 24 = y6 .kept .1 .0 ∙ mid-len 505 529 o5 (omega (arith, e5, full)) in
-    laid-as out (y2 .last .1 .0) (y4 .last .1 .0) (y6 .last .1 .0) (flat objectNumbers (led .objects .items)) (flat manifestNumbers (led .manifests .items)) (flat holdNumbers (led .holds .items)) (led .clock) (led .top) (led .objects .occupancy) (led .manifests .count) (led .holds .count) full h2 h4 h6 (y2 .ensures) (y4 .ensures) (y6 .ensures)
+    laid-as out (y2 .last .1 .0) (y4 .last .1 .0) (y6 .last .1 .0) (flat objectNumbers (led .objects .items)) (flat manifestNumbers (led .manifests .items)) (flat holdNumbers (led .holds .items)) (led .clock) (led .collected) (led .objects .occupancy) (led .manifests .count) (led .holds .count) full h2 h4 h6 (y2 .ensures) (y4 .ensures) (y6 .ensures)
 
 pub put-ledger-spec : {M : Type 1} → statement M
 put-ledger-spec =

@@ -16,7 +16,7 @@ none-requires-2 c κs = search needs
 returns : tie.Need-returns
 returns c = λ i. record {
   clock = 0;
-  top = 0;
+  collected = 0;
   objects = c .before .before .none .ensures i;
   manifests = c .before .first .ensures i;
   holds = c .none2 .ensures i;

@@ -20,7 +20,7 @@ places-sound-requires c κs = search needs
 
 -- what is asked of the places
 asked : (c : tie.After-places-sound) → let l = c .before .before .before .before .args .self in
-    c .places-sound .result ≡ all (placeSoundBy (l .top) (currentOf (l .manifests) .writer) (currentOf (l .manifests) .compactor)) (l .objects .items)
+    c .places-sound .result ≡ all (placeSoundBy (currentOf (l .manifests) .writer) (currentOf (l .manifests) .compactor)) (l .objects .items)
 asked c = rw (c .before .before .current .ensures) at (c .places-sound .ensures)
 
 returns : tie.Need-returns

@@ -63,7 +63,7 @@ returns-2 c =
     c .accepted .ensures
     ∙ (λ i. answeredWith (alone Done) (record {
       clock = d .settled .ensures i .clock;
-      top = s .object;
+      collected = d .settled .ensures i .collected;
       objects = (p .put .ensures ∙ ap (λ (l : Ledger). layPlaces (place o (l .objects .items))) (d .settled .ensures)) i;
       manifests = d .settled .ensures i .manifests;
       holds = d .settled .ensures i .holds;
