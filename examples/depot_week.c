@@ -23,7 +23,7 @@ static const char *const rows[] = {
     "slot above current plus one",
     "a named object isn't stored",
     "number is stored",
-    "number at most the top name and not stored",
+    "number at most the highest collected and not stored",
     "64 objects stored",
     "a live hold has this number",
     "manifest not active",

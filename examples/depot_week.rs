@@ -21,7 +21,7 @@ const ROWS: [&str; 17] = [
     "slot above current plus one",
     "a named object isn't stored",
     "number is stored",
-    "number at most the top name and not stored",
+    "number at most the highest collected and not stored",
     "64 objects stored",
     "a live hold has this number",
     "manifest not active",

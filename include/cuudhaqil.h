@@ -64,10 +64,10 @@ uint64_t cuudhaqil_read_verdict(const uint8_t *record, size_t record_len, uint64
 uint64_t cuudhaqil_write_verdict(const uint64_t *numbers, size_t numbers_len, const uint64_t *list, size_t list_len,
                                  uint8_t *out, size_t out_len);
 
-/* One step on a ledger. A ledger is 529 numbers, and any numbers are one: clock, top name, the occupancy word, 64 places
- * of five (number, role, epoch, currency, named), the count of manifests and nine places of twenty (number, writer epoch,
- * compactor epoch, count, sixteen names), the count of holds and eight places of three (number, manifest, expiry). Of a
- * role and a mark it is told whether they are 0, of a currency the last 16 bits. */
+/* One step on a ledger. A ledger is 529 numbers, and any numbers are one: clock, the highest object number ever collected,
+ * the occupancy word, 64 places of five (number, role, epoch, currency, named), the count of manifests and nine places of
+ * twenty (number, writer epoch, compactor epoch, count, sixteen names), the count of holds and eight places of three
+ * (number, manifest, expiry). Of a role and a mark it is told whether they are 0, of a currency the last 16 bits. */
 
 /* Lays the fresh ledger over the first 529 elements; those beyond stay.
  * 0: done. 3: there are fewer; the slice stays. */

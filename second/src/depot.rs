@@ -1,4 +1,5 @@
-//! Document 01, "One week at the depot": the steps and what each is answered.
+//! Tables of steps and what each is answered, in order from fresh: document
+//! 01, "One week at the depot", and document 02, request 1.
 
 use crate::records::{write_step, Kind, Role, Step, Verdict};
 
@@ -7,10 +8,15 @@ pub fn record(time: u64, kind: Kind) -> Vec<u8> {
     write_step(&Step { time, kind, list: vec![] }).expect("the step is well formed")
 }
 
-/// The records of the week, one behind the other.
-pub fn trace() -> Vec<u8> {
-    let records = week().into_iter().map(|(step, _)| write_step(&step));
+/// The records of a table's steps, one behind the other.
+pub fn records(cases: &[(Step, Verdict)]) -> Vec<u8> {
+    let records = cases.iter().map(|(step, _)| write_step(step));
     records.map(|record| record.expect("the steps are well formed")).collect::<Vec<_>>().concat()
+}
+
+/// The records of the week.
+pub fn trace() -> Vec<u8> {
+    records(&week())
 }
 
 /// The week's 23 steps; case 19 has five.
@@ -39,6 +45,38 @@ fn fence(slot: u64) -> Kind {
 
 fn collect(time: u64, list: &[u64]) -> (Step, Verdict) {
     at(time, Kind::Collect, Verdict::Collected(list.to_vec()))
+}
+
+/// Parallel writers land out of order: "12 may arrive before 11", a number is
+/// spent once it or a higher one was collected, and once 2^64-1 was collected
+/// every number is that isn't stored.
+pub fn out_of_order() -> Vec<(Step, Verdict)> {
+    let put = |epoch, object, code| {
+        let verdict = if code == 0 { Verdict::Done } else { Verdict::Refused(code) };
+        at(1, put(epoch, object, 978), verdict)
+    };
+    vec![
+        at(1, fence(1), Verdict::Epoch(1)),
+        put(1, 12, 0),
+        put(1, 11, 0),
+        put(1, 11, 9),
+        commit(1, 1, 2, &[11, 12], Verdict::Done),
+        commit(1, 1, 3, &[11], Verdict::Done),
+        collect(1, &[12]),
+        put(1, 11, 9),
+        put(1, 12, 10),
+        put(1, 10, 10),
+        put(1, u64::MAX, 0),
+        put(1, 13, 0),
+        at(1, fence(4), Verdict::Epoch(2)),
+        collect(1, &[13, u64::MAX]),
+        put(2, 11, 9),
+        put(2, 14, 10),
+        put(2, u64::MAX, 10),
+        commit(1, 2, 5, &[], Verdict::Done),
+        collect(1, &[11]),
+        put(2, 14, 10),
+    ]
 }
 
 /// Cases 1 to 8, the first writer.

@@ -1,5 +1,5 @@
 //! The ledger: document 01, "What the ledger holds", "The ten steps" and
-//! "When a step is turned away".
+//! "When a step is turned away", as request 1 of document 02 changes them.
 //!
 //! The ledger here is always sound, so row 1 of the table is not in this
 //! file; `raw` has it, for ledgers described place by place.
@@ -41,7 +41,8 @@ pub struct Hold {
 #[derive(Debug, Clone, PartialEq, Eq)]
 pub struct Ledger {
     pub clock: u64,
-    pub top: u64,
+    /// The highest object number ever collected, 0 at first.
+    pub highest_collected: u64,
     pub objects: BTreeMap<u64, Object>,
     pub manifests: BTreeMap<u64, Manifest>,
     pub holds: BTreeMap<u64, Hold>,
@@ -68,7 +69,7 @@ impl Ledger {
         let first = Manifest { writer: 0, compactor: 0, list: BTreeSet::new() };
         Ledger {
             clock: 0,
-            top: 0,
+            highest_collected: 0,
             objects: BTreeMap::new(),
             manifests: BTreeMap::from([(0, first)]),
             holds: BTreeMap::new(),
@@ -119,7 +120,7 @@ impl Ledger {
             (8, Kind::Commit { .. }) => !step.list.iter().all(stored),
             (8, Kind::Compact { object, .. }) => !stored(&object),
             (9, Kind::Put { object, .. }) => stored(&object),
-            (10, Kind::Put { object, .. }) => object <= self.top && !stored(&object),
+            (10, Kind::Put { object, .. }) => !stored(&object) && object <= self.highest_collected,
             (11, Kind::Put { .. }) => self.objects.len() >= PLACES,
             (12, Kind::Hold { hold, .. }) => live(&hold),
             (13, Kind::Hold { manifest, .. }) => !self.active(time).contains(&manifest),
@@ -189,7 +190,6 @@ impl Ledger {
             Kind::Fence { role, slot } => return self.fence(role, slot),
             Kind::Put { role, epoch, object, currency } => {
                 let place = self.lowest_free_place();
-                self.top = object;
                 self.objects.insert(object, Object { place, role, epoch, currency, named: false });
             }
             Kind::Commit { slot, .. } => self.publish(slot, step.list.iter().copied().collect()),
@@ -262,6 +262,9 @@ impl Ledger {
         let dead: Vec<u64> =
             stored.filter(|(name, object)| dead(name, object)).map(|(name, _)| *name).collect();
         self.objects.retain(|name, _| !dead.contains(name));
+        for name in &dead {
+            self.highest_collected = self.highest_collected.max(*name);
+        }
         dead
     }
 

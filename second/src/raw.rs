@@ -35,7 +35,7 @@ pub struct RawHold {
 #[derive(Debug, Clone, PartialEq, Eq)]
 pub struct Raw {
     pub clock: u64,
-    pub top: u64,
+    pub highest_collected: u64,
     pub occupancy: u64,
     pub objects: Vec<RawObject>,
     pub manifest_count: u64,
@@ -135,16 +135,16 @@ fn rising(numbers: impl Iterator<Item = u64>) -> bool {
     numbers.windows(2).all(|pair| pair[0] < pair[1])
 }
 
-/// "stored objects have distinct numbers from 1 to the top name, and an epoch
-/// from 1 to their role's current epoch"
+/// "stored objects have distinct numbers .. and an epoch from 1 to their role's
+/// current epoch"; of the numbers document 02, request 1, asks "only that they
+/// are distinct and not 0"
 fn objects_sound(raw: &Raw) -> bool {
     let current = &raw.kept()[raw.kept().len() - 1];
     let mut numbers: Vec<u64> = raw.stored().iter().map(|object| object.number).collect();
     numbers.sort();
     rising(numbers.into_iter())
         && raw.stored().iter().all(|object| {
-            (1..=raw.top).contains(&object.number)
-                && (1..=current.epoch(object.role)).contains(&object.epoch)
+            object.number != 0 && (1..=current.epoch(object.role)).contains(&object.epoch)
         })
 }
 
@@ -178,7 +178,7 @@ fn holds_sound(raw: &Raw) -> bool {
 pub fn raw(ledger: &Ledger) -> Raw {
     let mut raw = Raw {
         clock: ledger.clock,
-        top: ledger.top,
+        highest_collected: ledger.highest_collected,
         occupancy: 0,
         objects: vec![RawObject::default(); PLACES],
         manifest_count: ledger.manifests.len() as u64,
@@ -222,7 +222,7 @@ pub fn from_raw(raw: &Raw) -> Option<Ledger> {
     let stored = places.filter(|(place, _)| raw.occupied(*place));
     Some(Ledger {
         clock: raw.clock,
-        top: raw.top,
+        highest_collected: raw.highest_collected,
         objects: stored.map(|(place, o)| (o.number, object(place, o))).collect(),
         manifests: raw.kept().iter().map(|m| (m.number, manifest(m))).collect(),
         holds: raw.held().iter().map(|h| (h.number, hold(h))).collect(),

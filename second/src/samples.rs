@@ -12,7 +12,7 @@ use crate::run::{judge, LONGEST_TRACE};
 pub type File = (String, Vec<u8>);
 
 /// With it the longest trace is given every verdict but 1.
-const SEED: u64 = 20_240_659;
+const SEED: u64 = 20_240_662;
 
 pub fn examples() -> Vec<File> {
     vec![("depot_week.trace".to_string(), depot::trace())]

@@ -1,12 +1,17 @@
 //! The proved library's runs over whole traces against the second program's.
 
+use second::compare::ledgers::ledger_numbers;
 use second::compare::traces::{
     compare_lent, compare_rooms, compare_sequence, Calls, Counts, Course, SECOND,
 };
 use second::compare::Answers;
+use second::depot;
 use second::generate::guided::Guide;
+use second::ledger::Ledger;
 use second::proved;
 use second::random::Random;
+use second::raw::raw;
+use second::records::{write_verdict, Kind, Role, Verdict};
 
 const PROVED: Calls = Calls { run: proved::run, run_on: proved::run_on };
 const LENGTH: usize = 1_000;
@@ -47,6 +52,49 @@ fn every_size(counts: &Counts, least: usize) {
     all_given(&counts.objects, 0..=64, least);
     all_given(&counts.manifests, 1..=9, least);
     all_given(&counts.holds, 0..=8, least);
+}
+
+fn written(verdict: &Verdict) -> Vec<u8> {
+    write_verdict(verdict).expect("a step's verdict is well formed")
+}
+
+#[test]
+fn the_tables_hold_of_the_proved_run() {
+    for table in [depot::week(), depot::out_of_order()] {
+        let expected: Vec<u8> = table.iter().flat_map(|(_, verdict)| written(verdict)).collect();
+        let (mut out, mut counts) = (vec![0; expected.len()], [0; 2]);
+        assert_eq!(proved::run(&depot::records(&table), &mut out, &mut counts), 0);
+        assert_eq!(out, expected);
+    }
+}
+
+/// "once it is collected, every PUT past 9 gives 10", of the proved run on a
+/// built ledger, which all of them leave as it was.
+#[test]
+fn once_the_largest_number_is_collected_every_put_past_9_gives_10() {
+    let role = Role::Writer;
+    let put = |epoch, object| Kind::Put { role, epoch, object, currency: 978 };
+    let start = [Kind::Fence { role, slot: 1 }, put(1, 5), put(1, u64::MAX - 1)];
+    let trace = start.map(|kind| depot::record(0, kind)).concat();
+    let mut built = second::run::run(&Ledger::fresh(), &trace, usize::MAX).ledger;
+    assert_eq!(built.objects.len(), 2);
+    built.highest_collected = u64::MAX;
+    let before = ledger_numbers(&raw(&built));
+    for (epoch, object, code) in [
+        (1, 1, 10),
+        (1, 4, 10),
+        (1, 6, 10),
+        (1, u64::MAX, 10),
+        (1, 5, 9),
+        (1, u64::MAX - 1, 9),
+        (2, 6, 4),
+    ] {
+        let (mut ledger, mut out, mut counts) = (before.clone(), [0; 7], [0; 2]);
+        let record = depot::record(0, put(epoch, object));
+        assert_eq!(proved::run_on(&mut ledger, &record, &mut out, &mut counts), 0);
+        assert_eq!(out[..], written(&Verdict::Refused(code)), "{object} of epoch {epoch}");
+        assert_eq!(ledger, before);
+    }
 }
 
 #[test]

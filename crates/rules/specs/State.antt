@@ -20,8 +20,8 @@ pub record Manifest : Type 0 where
   pub compactorEpoch : ℕ
   pub names : List ℕ
 
--- highestCollected: "the highest number ever collected, .. 0 at first" (document 02, request 1, in place of document 01's top name);
--- places: a free one is all zero; older: the kept manifests before the current one, in rising number; holds: what 000 calls snapshots
+-- highestCollected: "the highest number ever collected", "0 at first" (document 02, request 1); places: a free one is all zero;
+-- older: the kept manifests before the current one, in rising number; holds: what 000 calls snapshots
 pub record State : Type 0 where
   pub clock : ℕ
   pub highestCollected : ℕ

@@ -48,7 +48,7 @@ pub fn raw_of(numbers: &[u64]) -> Raw {
     };
     Raw {
         clock: numbers[0],
-        top: numbers[1],
+        highest_collected: numbers[1],
         occupancy: numbers[2],
         objects: objects.map(object).collect(),
         manifest_count: numbers[MANIFESTS_AT - 1],
@@ -59,7 +59,7 @@ pub fn raw_of(numbers: &[u64]) -> Raw {
 }
 
 pub fn ledger_numbers(raw: &Raw) -> Vec<u64> {
-    let mut numbers = vec![raw.clock, raw.top, raw.occupancy];
+    let mut numbers = vec![raw.clock, raw.highest_collected, raw.occupancy];
     for object in &raw.objects {
         let RawObject { number, role, epoch, currency, named } = *object;
         numbers.extend([number, role, epoch, currency, named]);
@@ -343,7 +343,7 @@ fn asked(random: &mut Random, step: &Step, course: Course) -> (Vec<u64>, Vec<u64
 /// A sound ledger with one manifest, whose numbers are near 2^64-1.
 pub fn high(random: &mut Random) -> Ledger {
     let mut near = |below: u64| u64::MAX - random.below(below);
-    let (clock, top, number) = (near(2_000), near(1_000), near(300));
+    let (clock, collected, number) = (near(2_000), near(1_000), near(300));
     let writer = match near(3) % 3 {
         0 => number / 2,
         1 => number - 1,
@@ -352,7 +352,7 @@ pub fn high(random: &mut Random) -> Ledger {
     // The epochs add to the manifest's number, or nearly.
     let compactor = (number - writer).saturating_sub(near(3) % 3);
     let mut ledger = Ledger::fresh();
-    (ledger.clock, ledger.top) = (clock, top);
+    (ledger.clock, ledger.highest_collected) = (clock, collected);
     ledger.manifests = [(number, Manifest { writer, compactor, list: [].into() })].into();
     ledger
 }

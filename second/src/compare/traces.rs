@@ -457,7 +457,7 @@ pub fn compare_rooms(
     Ok(counts)
 }
 
-/// The depot week, ends of traces, the longest verdict of all, and ledgers
+/// The tables, ends of traces, the longest verdict of all, and ledgers
 /// whose numbers are cut or that are not sound.
 fn fixed() -> Vec<Short> {
     let fence = depot::record(0, Kind::Fence { role: Role::Writer, slot: 1 });
@@ -473,6 +473,7 @@ fn fixed() -> Vec<Short> {
     let unsound = Some(ledger_numbers(&unsound));
     vec![
         (None, depot::trace()),
+        (None, depot::records(&depot::out_of_order())),
         (None, vec![]),
         (None, vec![0x10]),
         (None, vec![0x10, 0]),

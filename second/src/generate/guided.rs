@@ -211,6 +211,25 @@ fn live_hold(random: &mut Random, ledger: &Ledger, time: u64) -> u64 {
     }
 }
 
+/// The highest number that is stored or was collected.
+fn highest(ledger: &Ledger) -> u64 {
+    let stored = ledger.objects.last_key_value().map_or(0, |(number, _)| *number);
+    stored.max(ledger.highest_collected)
+}
+
+/// A number that may be put, above all that are stored or, as when parallel
+/// writers land out of order, only above those that were collected.
+fn new_number(random: &mut Random, ledger: &Ledger) -> u64 {
+    let gap = match random.below(2000) {
+        0 => u64::MAX,
+        1..=20 => random.below(1 << 40),
+        _ => 1 + random.below(3),
+    };
+    let below = random.pick(&[highest(ledger), ledger.highest_collected]);
+    let first = below.saturating_add(gap.max(1));
+    (first..=u64::MAX).find(|number| !ledger.objects.contains_key(number)).unwrap_or(first)
+}
+
 /// A new number, most often of the role's current epoch.
 fn put(random: &mut Random, ledger: &Ledger) -> Kind {
     let role = role(random);
@@ -219,12 +238,7 @@ fn put(random: &mut Random, ledger: &Ledger) -> Kind {
         0 => 1 + random.below(current),
         _ => current,
     };
-    let gap = match random.below(2000) {
-        0 => u64::MAX,
-        1..=20 => random.below(1 << 40),
-        _ => 1 + random.below(3),
-    };
-    let object = ledger.top.saturating_add(gap.max(1));
+    let object = new_number(random, ledger);
     let currency = random.pick(&CURRENCIES);
     Kind::Put { role, epoch, object, currency }
 }

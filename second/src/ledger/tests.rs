@@ -71,11 +71,14 @@ fn collected(list: &[u64]) -> Verdict {
 const DONE: Verdict = Verdict::Done;
 
 #[test]
-fn depot_week() {
-    let (mut ledger, week) = (Ledger::fresh(), depot::week());
-    assert_eq!(week.len(), 23);
-    for (step, verdict) in week {
-        assert_eq!(ledger.checked(step.time, step.kind, &step.list), verdict, "{step:?}");
+fn the_tables_hold() {
+    let tables = [depot::week(), depot::out_of_order()];
+    assert_eq!(tables.each_ref().map(Vec::len), [23, 20]);
+    for table in tables {
+        let mut ledger = Ledger::fresh();
+        for (step, verdict) in table {
+            assert_eq!(ledger.checked(step.time, step.kind, &step.list), verdict, "{step:?}");
+        }
     }
 }
 
@@ -156,6 +159,29 @@ fn a_collected_number_is_spent_and_so_are_those_below() {
     assert_eq!(ledger.at(10, put(W, 2, 8, 5)), refused(10));
     assert_eq!(ledger.at(10, put(W, 2, 7, 5)), refused(10));
     assert_eq!(ledger.at(10, put(W, 2, 9, 5)), DONE);
+}
+
+/// "once it is collected, every PUT past 9 gives 10", on a built ledger: the
+/// smaller numbers still go first, and 10 goes before 11.
+#[test]
+fn once_the_largest_number_is_collected_every_put_past_9_gives_10() {
+    let mut ledger = started();
+    for object in [1, 5, u64::MAX - 1].into_iter().chain(100..161) {
+        assert_eq!(ledger.at(10, put(W, 1, object, 0)), DONE);
+    }
+    assert_eq!(ledger.at(10, put(W, 1, 2, 0)), refused(11));
+    let mut last = raw(&ledger);
+    last.highest_collected = u64::MAX;
+    let mut ledger = from_raw(&last).expect("stored numbers are not bounded by it");
+    for object in [2, 4, 6, 161, u64::MAX - 2, u64::MAX] {
+        assert_eq!(ledger.at(10, put(W, 1, object, 0)), refused(10));
+        assert_eq!(ledger.at(10, put(W, 2, object, 0)), refused(4));
+        assert_eq!(ledger.at(9, put(W, 1, object, 0)), refused(3));
+    }
+    for object in [1, 5, 160, u64::MAX - 1] {
+        assert_eq!(ledger.at(10, put(W, 1, object, 0)), refused(9));
+    }
+    assert_eq!(ledger.at(10, put(W, 1, 0, 0)), refused(2));
 }
 
 #[test]
@@ -291,7 +317,9 @@ fn the_last_numbers() {
     let mut ledger = from_raw(&last).unwrap();
     assert_eq!(ledger.at(10, put(W, 1, u64::MAX, 0)), DONE);
     assert_eq!(ledger.at(10, put(W, 1, u64::MAX, 0)), refused(9));
-    assert_eq!(ledger.at(10, put(W, 1, u64::MAX - 1, 0)), refused(10));
+    // The largest number is stored and not collected: smaller ones are taken.
+    assert_eq!(ledger.at(10, put(W, 1, u64::MAX - 1, 0)), DONE);
+    assert_eq!(ledger.at(10, put(W, 1, 1, 0)), DONE);
     assert_eq!(ledger.at(10, put(W, 2, 1, 0)), refused(4));
     assert_eq!(ledger.commit(10, 1, u64::MAX, &[u64::MAX]), DONE);
     for slot in [0, 1, u64::MAX - 1, u64::MAX] {

@@ -8,7 +8,7 @@ use crate::records::Kind;
 fn sample() -> Raw {
     let mut raw = raw(&Ledger::fresh());
     raw.clock = 100;
-    raw.top = 40;
+    raw.highest_collected = 35;
     raw.occupancy = 1 | 1 << 2 | 1 << 63;
     raw.objects[0] = object(30, 0, 2, 978, 1);
     raw.objects[2] = object(10, 1, 1, 0, 1);
@@ -128,10 +128,14 @@ fn lists_manifests_and_holds_rise() {
 }
 
 #[test]
-fn stored_numbers_are_distinct_and_up_to_the_top_name() {
+fn stored_numbers_are_distinct_and_not_0() {
     unsound(|raw| raw.objects[63].number = 30);
-    unsound(|raw| raw.top = 39);
-    still_sound(|raw| raw.top = 41);
+    unsound(|raw| raw.objects[63].number = 0);
+    // The highest number ever collected bounds them on neither side.
+    for number in [0, 9, 10, 11, 40, u64::MAX] {
+        still_sound(|raw| raw.highest_collected = number);
+    }
+    still_sound(|raw| raw.objects[63].number = u64::MAX);
 }
 
 #[test]

@@ -1,7 +1,7 @@
 //! Changes that make a row of the table apply to a step: document 01, "When a
 //! step is turned away".
 
-use super::CURRENCIES;
+use super::{highest, CURRENCIES};
 use crate::ledger::Ledger;
 use crate::random::Random;
 use crate::records::{Kind, Role, Step};
@@ -71,8 +71,8 @@ pub fn change_object(random: &mut Random, row: u8, step: &mut Step, ledger: &Led
         stored.push(1);
     }
     let absent = match random.below(2) {
-        0 => ledger.top.saturating_add(1),
-        _ => 1 + random.below(ledger.top.max(1)),
+        0 => highest(ledger).saturating_add(1),
+        _ => 1 + random.below(highest(ledger).max(1)),
     };
     match (&mut step.kind, row) {
         (Kind::Commit { .. }, 8) => {
@@ -85,7 +85,11 @@ pub fn change_object(random: &mut Random, row: u8, step: &mut Step, ledger: &Led
         (Kind::Compact { object, .. }, 17) | (Kind::Put { object, .. }, 9) => {
             *object = random.pick(&stored);
         }
-        (Kind::Put { object, .. }, 10) => *object = random.pick(&[absent, ledger.top.max(1)]),
+        (Kind::Put { object, .. }, 10) => {
+            let collected = ledger.highest_collected.max(1);
+            let spent = 1 + random.below(collected);
+            *object = random.pick(&[absent, collected, spent]);
+        }
         _ => {}
     }
 }

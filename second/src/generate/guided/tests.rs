@@ -20,7 +20,9 @@ struct Counts {
     at_expiry: usize,
     behind_expiry: usize,
     empty_store: usize,
-    top_gone: usize,
+    highest_collected: usize,
+    out_of_order: usize,
+    below_collected: usize,
     collected: usize,
 }
 
@@ -39,8 +41,13 @@ fn count(counts: &mut Counts, before: &Ledger, step: &Step, verdict: &Verdict, a
         counts.behind_expiry += usize::from(expires(step.time - 1));
     }
     if let (Kind::Put { object, .. }, 10) = (step.kind, verdict.code()) {
-        counts.top_gone += usize::from(object == before.top);
+        counts.highest_collected += usize::from(object == before.highest_collected);
     }
+    if let (Kind::Put { object, .. }, 0) = (step.kind, verdict.code()) {
+        counts.out_of_order += usize::from(before.objects.keys().any(|other| *other > object));
+    }
+    counts.below_collected +=
+        usize::from(after.objects.keys().any(|number| *number < after.highest_collected));
     if let Verdict::Collected(list) = verdict {
         counts.collected += list.len();
     }
@@ -78,7 +85,9 @@ fn every_verdict_and_limit_is_reached() {
         counts.at_expiry,
         counts.behind_expiry,
         counts.empty_store,
-        counts.top_gone,
+        counts.highest_collected,
+        counts.out_of_order,
+        counts.below_collected,
         counts.collected,
     ] {
         assert!(times >= OFTEN, "{counts:?}");

@@ -3,6 +3,7 @@
 use mathlib.Core.Path.{_≡_, sym, ap, _∙_}
 use mathlib.Core.Bool.{cond}
 use Prim.Native.Nat.{ℕ}
+use native.Mathlib.Omega.{arith}
 use borrow.Author.Needs.{needs}
 use borrow.Author.Tests.{lt-leb, le-leb}
 use Rattle.rules.specs.State.{epochOf}
@@ -68,7 +69,7 @@ returns-3 c t k =
     let e = c .before .before in
     let b = e .before .before .before in
     let s = b .before .before .before .before .before .args in
-    sym (put-rows (view (s .self)) t (s .role) (s .epoch) (s .object) k ∙ past b _ ∙ (rw (there (e .before) ∙ e .if2 .left, le-leb _ _ (c .if3 .taken))))
+    sym (put-rows (view (s .self)) t (s .role) (s .epoch) (s .object) k ∙ past b _ ∙ (rw (there (e .before) ∙ e .if2 .left, le-leb (s .object) (s .self .collected) (omega (arith, c .if3 .taken)))))
 
 is-full-requires : tie.Need-is-full-requires
 is-full-requires c κs = sound-parts _ (c .before .before .before .before .before .before .before .before .before .before .pre) .objects
@@ -80,7 +81,7 @@ returns-4 c t k =
     let b = e .before .before .before in
     let s = b .before .before .before .before .before .args in
     sym (put-rows (view (s .self)) t (s .role) (s .epoch) (s .object) k ∙ past b _
-    ∙ (rw (there (e .before) ∙ e .if2 .left, lt-leb _ _ (d .if3 .left), sym (c .before .is-full .ensures) ∙ c .if4 .taken)))
+    ∙ (rw (there (e .before) ∙ e .if2 .left, lt-leb (s .object) (s .self .collected) (omega (arith, d .if3 .left)), sym (c .before .is-full .ensures) ∙ c .if4 .taken)))
 
 returns-5 : tie.Need-returns-5
 returns-5 c t k =
@@ -89,7 +90,7 @@ returns-5 c t k =
     let b = e .before .before .before in
     let s = b .before .before .before .before .before .args in
     sym (put-rows (view (s .self)) t (s .role) (s .epoch) (s .object) k ∙ past b _
-    ∙ (rw (there (e .before) ∙ e .if2 .left, lt-leb _ _ (d .if3 .left), sym (c .before .is-full .ensures) ∙ c .if4 .left)))
+    ∙ (rw (there (e .before) ∙ e .if2 .left, lt-leb (s .object) (s .self .collected) (omega (arith, d .if3 .left)), sym (c .before .is-full .ensures) ∙ c .if4 .left)))
 
 pub put-row-spec : {M : Type 1} → statement M
 put-row-spec =
