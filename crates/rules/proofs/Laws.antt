@@ -1,12 +1,11 @@
 -- Laws of the rules that code rests on, so that it never opens a definition.
 -- Assumes nothing.
 use mathlib.Core.Path.{_≡_, refl, sym, ap, ap₂, _∙_}
-use mathlib.Core.Logic.{_⊎_, inl, inr}
 use mathlib.Core.Bool.{Bool, true, false, not, cond, _&&_, _||_}
 use mathlib.Core.List.{List, [], _∷_, _++_, map, List·Memᴰ·head, List·Memᴰ·tail}
 use Prim.Native.Nat.{ℕ, suc, _^_, _<_}
 use native.Mathlib.Omega.{arith}
-use lib.Dec.{leb, eqb}
+use lib.Dec.{eqb}
 use lib.ListN.{set}
 use borrow.Author.Tests.{le-leb, eq-eqb, eqb-true}
 use Rattle.rules.specs.declared.Hold.{Hold}
@@ -14,9 +13,9 @@ use Rattle.rules.specs.declared.Object.{Object}
 use Rattle.rules.specs.Lists.{_∈_, has, keep, lookup, maximum, sorted}
 use Rattle.rules.specs.State.{Manifest, State, firstManifest, free, kept, objects, occupied}
 use Rattle.rules.specs.Step.{clear, collect, collected, heldBy, place, publish, tidy}
-use Rattle.rules.specs.Table.{row10, row6, row9}
-use Rattle.rules.specs.Words.{dead, listed, live, liveHolds, manifestOf, pending, stored}
-use Rattle.rules.proofs.Lists.{and-both, any-same, decide, in-any, keep-in, keep-same, true-false}
+use Rattle.rules.specs.Table.{row6}
+use Rattle.rules.specs.Words.{dead, listed, live, liveHolds, manifestOf, pending}
+use Rattle.rules.proofs.Lists.{any-same, in-any, keep-in, keep-same, true-false}
 
 -- Manifests
 

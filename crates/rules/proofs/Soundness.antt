@@ -2,11 +2,11 @@
 -- Assumes nothing.
 use mathlib.Core.Path.{_≡_, refl, sym, ap, _∙_, subst}
 use mathlib.Core.Logic.{_⊎_, inl, inr}
-use mathlib.Core.Bool.{Bool, true, false, not, cond, _&&_, false≢true}
+use mathlib.Core.Bool.{Bool, true, false, not, cond, false≢true}
 use mathlib.Core.List.{List, [], _∷_, List·Memᴰ·head, List·Memᴰ·not-nil, List·Memᴰ·cases-cons, List·Memᴰ·eq-of-singleton, map-id}
 use Prim.Native.Nat.{ℕ, zero, suc, _+_, _≤_, _<_}
 use native.Mathlib.Omega.{arith}
-use lib.Dec.{leb, eqb}
+use lib.Dec.{eqb}
 use lib.ListN.{length, replicate, length-replicate}
 use borrow.Author.Tests.{leb-true, leb-false, ltb-false, eq-eqb}
 use Rattle.rules.specs.declared.Kind.{Kind}
@@ -28,7 +28,6 @@ use Rattle.rules.proofs.Demand3.{none-stored}
 use Rattle.rules.proofs.Lists.{conj-true, in-any, keep-in, or-false-left, or-false-right}
 use Rattle.rules.proofs.Numbers.{insert-in, insert-length, keep-length, rising-insert, rising-keep}
 use Rattle.rules.proofs.Ordered.{ordered-sum}
-use Rattle.rules.proofs.Publish.{}
 use Rattle.rules.proofs.Shape.{Shape, numbers, shape-of, sound-of}
 use Rattle.rules.proofs.SoundCollect.{collect-shape}
 use Rattle.rules.proofs.SoundEnds.{current-kept, settle-shape, tidy-held, tidy-shape}

@@ -18,18 +18,18 @@ use Rattle.rules.specs.Agreement.{Agrees}
 use Rattle.rules.specs.Demand3.{eventsFrom, ledgerFrom}
 use Rattle.rules.specs.History.{History, Stored, Event, atFirst, atTime, deadAt, deadObject, feed, noted, notedOf, storedAt}
 use Rattle.rules.specs.Limits.{Limits}
-use Rattle.rules.specs.Lists.{_∈_, any, distinct, has, keep, maximum}
+use Rattle.rules.specs.Lists.{_∈_, any, distinct, has, maximum}
 use Rattle.rules.specs.Request.{Ask, Asked, Request, Unreadable}
 use Rattle.rules.specs.State.{State, freshIn}
-use Rattle.rules.specs.Step.{Reply, accepts, act, answers, effect, granted, next, reply, rowsOf, settle, verdict}
-use Rattle.rules.specs.Table.{Row, _if_, row10, row9, rows}
+use Rattle.rules.specs.Step.{Reply, accepts, act, answers, effect, granted, next, reply, verdict}
+use Rattle.rules.specs.Table.{_if_, row10, row9, rows}
 use Rattle.rules.specs.Words.{stored}
 use Rattle.rules.specs.WriteOnce.{Past, WriteOnce, collectedFrom, goneBy, listedBy, putOf, puts}
 use Rattle.rules.proofs.Agreement.{stored-same}
 use Rattle.rules.proofs.Demand3.{agrees-fresh, dead-time, exact, request-keeps, step-keeps}
 use Rattle.rules.proofs.Lists.{and-both, any-in, decide, in-any, in-keep, or-left, true-false}
-use Rattle.rules.proofs.Numbers.{has-in, in-has}
-use Rattle.rules.proofs.Table.{Clear, cleared, granted-reply, verdict-smallest}
+use Rattle.rules.proofs.Numbers.{has-in}
+use Rattle.rules.proofs.Table.{cleared, granted-reply, verdict-smallest}
 
 -- Lists
 
