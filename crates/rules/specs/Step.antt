@@ -69,6 +69,7 @@ unfoldable pub place : Object → List Object → List Object
 place o [] = []
 place o (x ∷ xs) = cond (occupied x) (x ∷ place o xs) (o ∷ xs)
 
+-- a put changes the places alone
 abbrev pub put : Object → State → State
 put o s = withPlaces s (place o (s .places))
 
@@ -92,7 +93,7 @@ clear t s o = cond (dead t s o) free o
 unfoldable pub collected : ℕ → State → List ℕ
 collected t s = sorted (map (λ o. o .number) (keep (dead t s) (objects s)))
 
--- the dead objects go, and the highest number ever collected is that of them all
+-- the dead objects go, and the highest number ever collected is the highest of what it was and theirs
 abbrev pub collect : State → State
 collect s = record {
   clock = s .clock;
