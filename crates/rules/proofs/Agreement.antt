@@ -42,11 +42,11 @@ module _ {L : Limits} (s : State) (h : History) (r : Agrees L s h) where
       ap (λ (m : Manifest). m .names) (f .3) ∙ r .manifests .noted (f .0) (f .1) ∙ ap (λ n. listAt n (lists h)) (f .2)
 
   module _ (t : ℕ) (later : s .clock ≤ t) where
-    hold-to : (x : Hold) → x ∈ liveHolds t s → x ∈ keep (liveAt t) (h .holds)
+    pub hold-to : (x : Hold) → x ∈ liveHolds t s → x ∈ keep (liveAt t) (h .holds)
     unfolding live
     hold-to x m = let k = keep-in (live t) (s .holds) m in in-keep (live t) (r .holding .noted x (k .0)) (k .1)
 
-    hold-from : (x : Hold) → x ∈ keep (liveAt t) (h .holds) → x ∈ liveHolds t s
+    pub hold-from : (x : Hold) → x ∈ keep (liveAt t) (h .holds) → x ∈ liveHolds t s
     unfolding live
     hold-from x m =
         let k = keep-in (liveAt t) (h .holds) m in

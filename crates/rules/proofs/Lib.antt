@@ -24,5 +24,6 @@ pub mod Depot
 pub mod WriteOnce
 pub mod Counted
 pub mod Whole
+pub mod Rates
 pub mod Laws
 pub mod Typed

@@ -14,3 +14,4 @@ pub mod Demand3
 pub mod Depot
 pub mod WriteOnce
 pub mod OutOfOrder
+pub mod Rates
