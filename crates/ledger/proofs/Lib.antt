@@ -11,4 +11,5 @@ pub mod Collecting
 pub mod Freeing
 pub mod Whole
 pub mod Demand3
+pub mod Looking
 pub mod Depot

@@ -3,6 +3,7 @@ pub mod Parts
 pub mod Rows
 pub mod Dead
 pub mod Step
+pub mod Look
 pub mod SoundLaw
 pub mod Demand3
 pub mod Depot
