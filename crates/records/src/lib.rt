@@ -8,10 +8,17 @@ mod writing;
 use rules::Kind;
 use rules::Step;
 use rules::Verdict;
+// For records of crates above: fields of the table, and what reads and writes any record.
+pub use format::currency;
+pub use format::four;
+pub use format::object;
 pub use steps::read_step;
 pub use steps::write_step;
 pub use verdicts::read_verdict;
 pub use verdicts::write_verdict;
+pub use walking::is_whole;
+pub use walking::walk as walk_fields;
+pub use writing::write_record;
 
 // How many inner fields a record has at most.
 pub const FIELDS: usize = 6;
