@@ -4,6 +4,7 @@
 //! Both sides keep the calling convention of the proved library's C calls,
 //! so that also what a refusal leaves untouched is compared.
 
+pub mod desk;
 pub mod ledgers;
 pub mod records;
 pub mod traces;

@@ -4,6 +4,7 @@
 pub mod guided;
 pub mod loose;
 pub mod names;
+pub mod sheets;
 
 use crate::random::Random;
 use crate::records::{

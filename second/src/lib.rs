@@ -1,8 +1,10 @@
-//! A second implementation of the ledger of document 01, written from the
-//! document alone, with which the proved library is compared.
+//! A second implementation of the ledger of document 01 and of requests 1 and 2
+//! of document 02, written from the documents alone, with which the proved
+//! library is compared.
 
 pub mod compare;
 pub mod depot;
+pub mod desk;
 pub mod generate;
 pub mod ledger;
 pub mod names;

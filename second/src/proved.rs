@@ -70,6 +70,33 @@ extern "C" {
     ) -> u64;
 }
 
+#[link(name = "desk_exports", kind = "static")]
+extern "C" {
+    fn cuudhaqil_read_sheet(record: *const u8, n: usize, numbers: *mut u64, count: usize) -> u64;
+    fn cuudhaqil_write_sheet(numbers: *const u64, count: usize, out: *mut u8, room: usize) -> u64;
+    fn cuudhaqil_sell(
+        ledger: *mut u64,
+        size: usize,
+        time: u64,
+        sheet: *const u8,
+        n: usize,
+        currency: u64,
+        hold: u64,
+        fare: u64,
+        sale: *mut u64,
+        answers: usize,
+    ) -> u64;
+    fn cuudhaqil_fill_card(
+        ledger: *mut u64,
+        size: usize,
+        time: u64,
+        hold: u64,
+        count: u64,
+        card: *mut u64,
+        numbers: usize,
+    ) -> u64;
+}
+
 pub fn read_name(name: &[u8], number: &mut [u64]) -> u64 {
     let (numbers, place) = (number.len(), number.as_mut_ptr());
     // SAFETY: both pointers come from slices of the lengths given.
@@ -152,4 +179,40 @@ pub fn run_on(ledger: &mut [u64], trace: &[u8], out: &mut [u8], counts: &mut [u6
     // SAFETY: the pointers come from slices of the lengths given, and those
     // that may be written do not overlap.
     unsafe { cuudhaqil_run_on(ledger, size, trace, n, out, room, counts, len) }
+}
+
+pub fn read_sheet(record: &[u8], numbers: &mut [u64]) -> u64 {
+    let (n, count) = (record.len(), numbers.len());
+    // SAFETY: both pointers come from slices of the lengths given.
+    unsafe { cuudhaqil_read_sheet(record.as_ptr(), n, numbers.as_mut_ptr(), count) }
+}
+
+pub fn write_sheet(numbers: &[u64], out: &mut [u8]) -> u64 {
+    let (count, room) = (numbers.len(), out.len());
+    // SAFETY: both pointers come from slices of the lengths given.
+    unsafe { cuudhaqil_write_sheet(numbers.as_ptr(), count, out.as_mut_ptr(), room) }
+}
+
+pub fn sell(
+    ledger: &mut [u64],
+    time: u64,
+    sheet: &[u8],
+    currency: u64,
+    hold: u64,
+    fare: u64,
+    sale: &mut [u64],
+) -> u64 {
+    let (size, n, answers) = (ledger.len(), sheet.len(), sale.len());
+    let (ledger, sheet, sale) = (ledger.as_mut_ptr(), sheet.as_ptr(), sale.as_mut_ptr());
+    // SAFETY: the pointers come from slices of the lengths given, and those
+    // that may be written do not overlap.
+    unsafe { cuudhaqil_sell(ledger, size, time, sheet, n, currency, hold, fare, sale, answers) }
+}
+
+pub fn fill_card(ledger: &mut [u64], time: u64, hold: u64, count: u64, card: &mut [u64]) -> u64 {
+    let (size, numbers) = (ledger.len(), card.len());
+    let (ledger, card) = (ledger.as_mut_ptr(), card.as_mut_ptr());
+    // SAFETY: the pointers come from slices of the lengths given, and those
+    // that may be written do not overlap.
+    unsafe { cuudhaqil_fill_card(ledger, size, time, hold, count, card, numbers) }
 }

@@ -14,8 +14,8 @@ const TIME: u8 = 0x01;
 const ROLE: u8 = 0x02;
 const EPOCH: u8 = 0x03;
 const SLOT: u8 = 0x04;
-const OBJECT: u8 = 0x05;
-const CURRENCY: u8 = 0x06;
+pub const OBJECT: u8 = 0x05;
+pub const CURRENCY: u8 = 0x06;
 const LIST: u8 = 0x07;
 const HOLD: u8 = 0x08;
 const MANIFEST: u8 = 0x09;
@@ -260,10 +260,11 @@ pub fn write_verdict(verdict: &Verdict) -> Option<Vec<u8>> {
     Some(field(VERDICT, &inner))
 }
 
-type Field<'a> = (u8, &'a [u8]);
+/// A tag and its value.
+pub type Field<'a> = (u8, &'a [u8]);
 
 /// The tag and the inner fields of bytes that are one record.
-fn split_record(bytes: &[u8]) -> Option<(u8, Vec<Field<'_>>)> {
+pub fn split_record(bytes: &[u8]) -> Option<(u8, Vec<Field<'_>>)> {
     let outer = split(bytes)?;
     let [(tag, value)] = outer[..] else {
         return None;
@@ -286,11 +287,11 @@ fn split(mut bytes: &[u8]) -> Option<Vec<Field<'_>>> {
     }
 }
 
-fn long(value: &[u8]) -> Option<u64> {
+pub fn long(value: &[u8]) -> Option<u64> {
     Some(u64::from_be_bytes(value.try_into().ok()?))
 }
 
-fn short(value: &[u8]) -> Option<u16> {
+pub fn short(value: &[u8]) -> Option<u16> {
     Some(u16::from_be_bytes(value.try_into().ok()?))
 }
 
@@ -319,7 +320,7 @@ fn list_field(list: &[u64]) -> Vec<u8> {
     field(LIST, &values)
 }
 
-fn field(tag: u8, value: &[u8]) -> Vec<u8> {
+pub fn field(tag: u8, value: &[u8]) -> Vec<u8> {
     let length = u16::try_from(value.len()).expect("well-formed values are short");
     let [high, low] = length.to_be_bytes();
     [&[tag, high, low], value].concat()

@@ -115,7 +115,8 @@ pub fn list_of(length: u64, places: &[u64]) -> Option<Vec<u64>> {
     unused.iter().all(|place| *place == 0).then(|| list.to_vec())
 }
 
-fn put(written: Option<Vec<u8>>, out: &mut [u8]) -> u64 {
+/// The length written; 2 where nothing is; 0 where the room is short.
+pub fn put(written: Option<Vec<u8>>, out: &mut [u8]) -> u64 {
     let Some(bytes) = written else {
         return 2;
     };
