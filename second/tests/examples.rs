@@ -7,6 +7,8 @@ use std::process::Command;
 
 const C: &str = "cc -O2 -Wall -Wextra -Werror -Iinclude examples/depot_week.c \
                  -Ltarget/staticlib -lexports";
+const SALE: &str = "cc -O2 -Wall -Wextra -Werror -Iinclude examples/sale.c -Ltarget/staticlib \
+                    -lexports -ldesk_exports";
 const RUST: &str = "rustc --edition 2021 -O examples/depot_week.rs -L target/staticlib \
                     -l static=exports";
 
@@ -25,11 +27,16 @@ fn compiled(command: &str, name: &str) -> PathBuf {
     program
 }
 
-/// What the program prints for a trace, which it must accept.
-fn printed(program: &Path, trace: &Path) -> String {
-    let done = Command::new(program).arg(trace).output().expect("it was compiled");
-    assert!(done.status.success(), "{}: {done:?}", trace.display());
+/// What the program prints, which must succeed.
+fn printed_by(command: &mut Command) -> String {
+    let done = command.output().expect("it was compiled");
+    assert!(done.status.success(), "{command:?}: {done:?}");
     String::from_utf8(done.stdout).expect("it is text")
+}
+
+/// What the program prints for a trace.
+fn printed(program: &Path, trace: &Path) -> String {
+    printed_by(Command::new(program).arg(trace))
 }
 
 #[test]
@@ -50,4 +57,13 @@ fn both_examples_print_the_stored_week() {
         assert!(words.lines().last().is_some_and(|line| line.starts_with(end)), "{words}");
         assert_eq!(words, printed(&rust, &cut));
     }
+}
+
+#[test]
+fn the_sale_prints_what_is_stored_and_the_readme_shows() {
+    let stored = fs::read_to_string(root().join("examples/sale.out")).expect("it is stored");
+    assert_eq!(printed_by(&mut Command::new(compiled(SALE, "sale"))), stored);
+    let readme = fs::read_to_string(root().join("README.md")).expect("it is there");
+    let shown: String = stored.lines().map(|line| format!("    {line}\n")).collect();
+    assert!(readme.contains(&shown), "README.md shows another sale");
 }
