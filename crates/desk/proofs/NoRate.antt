@@ -15,7 +15,7 @@ use Rattle.rules.specs.Limits.{limits}
 use Rattle.rules.specs.State.{fresh}
 use Rattle.rules.specs.Table.{nonzero, wellFormed}
 use Rattle.rules.specs.Request.{Ask}
-use Rattle.rules.specs.Step.{Reply}
+use Rattle.rules.specs.Step.{Reply, code}
 use Rattle.rules.specs.Demand3.{historyOf}
 use Rattle.rules.specs.Rates.{heldAt, ratesAt, lookAt}
 use Rattle.rules.proofs.Lists.{and-left, and-right, true-false}
@@ -38,9 +38,9 @@ use Rattle.desk.specs.declared.Sale.{Sale}
 use Rattle.desk.specs.declared.Sale.the-variants.{Charged, Refused}
 use Rattle.desk.specs.declared.SaleAnswer.{SaleAnswer}
 use Rattle.desk.specs.Charge.{largestFare, chargeOf, Smallest}
-use Rattle.desk.specs.Look.{asked, lookOf}
+use Rattle.desk.specs.Look.{asked, objectOf, lookOf}
 use Rattle.desk.specs.Sale.{refusedSale, isInForce, saleOf}
-use Rattle.desk.specs.NoRate.{WentBy, SaleExact, NoRateNoCharge}
+use Rattle.desk.specs.NoRate.{WentBy, SaleExact, LookedExact, NoRateNoCharge}
 use Rattle.desk.proofs.Rounding.{charge-smallest, rate-bounds}
 
 -- ---- sales are told apart
@@ -163,6 +163,10 @@ module _ (asks : List Ask) (time currency hold : ℕ) where
 
   answered : judged (ledgerAfter (lay fresh) asks) (asked time currency hold) .verdict .answer ≡ lookAt limits time (historyOf asks) currency hold
   answered = ap (λ (v : Verdict). v .answer) (delivered asks .answers (asked time currency hold)) ∙ ap (λ (r : Reply). r .answer) (looks asks time currency hold)
+
+  pub looked-exact : LookedExact asks time currency hold
+  unfolding lookOf
+  looked-exact = record { code = ap code answered; object = ap objectOf answered }
 
   module _ (sheet : List ℕ) (fare : ℕ) where
     says : (n : ℕ) (w : WentBy (ledgerAfter (lay fresh) asks) time sheet currency hold fare n) → Rated (Found (w .rate .object))

@@ -7,10 +7,12 @@ use mathlib.Core.List.{List}
 use Prim.Native.Nat.{ℕ, _≤_, _<_}
 use Rattle.rules.specs.declared.Answer.the-variants.{Found}
 use Rattle.rules.specs.Lists.{_∈_, none, maximum}
+use Rattle.rules.specs.Limits.{limits}
 use Rattle.rules.specs.State.{fresh}
 use Rattle.rules.specs.Request.{Ask}
+use Rattle.rules.specs.Step.{code as codeOf}
 use Rattle.rules.specs.Demand3.{historyOf}
-use Rattle.rules.specs.Rates.{heldAt, ratesAt}
+use Rattle.rules.specs.Rates.{heldAt, ratesAt, lookAt}
 use Rattle.ledger.specs.declared.Ledger.{Ledger}
 use Rattle.ledger.specs.Ledger.{lay}
 use Rattle.ledger.specs.Step.{judged}
@@ -20,7 +22,7 @@ use Rattle.sheets.specs.declared.SheetRead.the-variants.{Read}
 use Rattle.sheets.specs.Sheets.{decodeSheet}
 use Rattle.desk.specs.declared.Sale.the-variants.{Charged, Refused}
 use Rattle.desk.specs.Charge.{largestFare, Smallest}
-use Rattle.desk.specs.Look.{asked}
+use Rattle.desk.specs.Look.{asked, objectOf, lookOf}
 use Rattle.desk.specs.Sale.{saleOf}
 
 module _ (l : Ledger) (time : ℕ) (sheet : List ℕ) (currency hold fare : ℕ) where
@@ -42,7 +44,12 @@ module _ (l : Ledger) (time : ℕ) (sheet : List ℕ) (currency hold fare : ℕ)
     -- "A refused sale charges nothing and leaves the ledger unchanged"
     pub refused : (n : ℕ) → saleOf l time sheet currency hold fare .sale ≡ Refused n → (0 < n) × (saleOf l time sheet currency hold fare .ledger ≡ l)
 
--- of every ledger from fresh on, by the history
+-- of every ledger from fresh on, by the history: what a look, so an entry of a card, comes to
+pub record LookedExact (asks : List Ask) (time currency hold : ℕ) : Type 0 where
+  pub code : lookOf (ledgerAfter (lay fresh) asks) time currency hold .code ≡ codeOf (lookAt limits time (historyOf asks) currency hold)
+  pub object : lookOf (ledgerAfter (lay fresh) asks) time currency hold .object ≡ objectOf (lookAt limits time (historyOf asks) currency hold)
+
+-- and what a sale is charged by
 module _ (asks : List Ask) (time : ℕ) (sheet : List ℕ) (currency hold fare : ℕ) where
   abbrev pub ChargesNothing : Type 0
   ChargesNothing = (n : ℕ) → saleOf (ledgerAfter (lay fresh) asks) time sheet currency hold fare .sale ≡ Charged n → ⊥
