@@ -1,6 +1,7 @@
 //! Nanoseconds per accepted step of each kind, on a ledger of 32 objects, 4
 //! manifests and 4 holds: by the proved library's C call, by the second
 //! program through the same call, and by the second program's ledger alone.
+//! Then a sale and a route card on that ledger, by the first two.
 //!
 //! The first two judge each time whether the ledger is sound, and the copy of
 //! the ledger before each call is in all three.
@@ -8,8 +9,10 @@
 use std::hint::black_box;
 use std::time::Instant;
 
+use second::compare::desk::{self, FillCall, SellCall, ENTRY, SALE};
 use second::compare::ledgers::{self, ledger_numbers, StepCall, LEDGER};
 use second::compare::records::{put_verdict, step_numbers, STEP, VERDICT};
+use second::desk::{write_sheet, Sheet};
 use second::ledger::Ledger;
 use second::proved;
 use second::raw::raw;
@@ -89,17 +92,57 @@ fn measure(label: &str, ledger: &Ledger, asked: &Step) {
         black_box(next.step(black_box(asked)));
         black_box(next);
     });
-    let median = |times: &[f64]| times[ROUNDS / 2];
-    let (one, other) = (median(&proved), median(&second));
+    print(label, &proved, &second, &format!("{:.0}", alone[ROUNDS / 2]));
+}
+
+fn print(label: &str, proved: &[f64], second: &[f64], alone: &str) {
+    let (one, other) = (proved[ROUNDS / 2], second[ROUNDS / 2]);
     println!(
-        "{label:<14} {one:8.0} ({:.0} to {:.0})  {other:8.0} ({:.0} to {:.0})  {:8.0}  {:6.2}",
+        "{label:<14} {one:8.0} ({:.0} to {:.0})  {other:8.0} ({:.0} to {:.0})  {alone:>8}  {:6.2}",
         proved[0],
         proved[ROUNDS - 1],
         second[0],
         second[ROUNDS - 1],
-        median(&alone),
         one / other
     );
+}
+
+/// A sale by the sheet in force, which charges.
+fn sale(sell: SellCall, ledger: &[u64], sheet: &[u8]) -> Vec<f64> {
+    let (mut next, mut sale) = (ledger.to_vec(), [0; SALE]);
+    let times = rounds(|| {
+        next.copy_from_slice(black_box(ledger));
+        let sheet = black_box(sheet);
+        black_box(sell(&mut next, TIME, sheet, 978, 0, black_box(250), &mut sale));
+        black_box((&next, &sale));
+    });
+    assert_eq!(sale, [0, 275]);
+    times
+}
+
+/// A card of 16 currencies, four of which have a sheet in force.
+fn card(fill: FillCall, ledger: &[u64]) -> Vec<f64> {
+    let asked: Vec<u64> =
+        (0..16).flat_map(|i| [[756, 840, 978, 985][i % 4] + (i as u64) / 4, 9, 9]).collect();
+    let (mut next, mut card) = (ledger.to_vec(), asked.clone());
+    let times = rounds(|| {
+        next.copy_from_slice(black_box(ledger));
+        card.copy_from_slice(black_box(&asked));
+        black_box(fill(&mut next, TIME, 0, 16, &mut card));
+        black_box((&next, &card));
+    });
+    assert_eq!(card.chunks(ENTRY).filter(|entry| entry[1] == 0).count(), 4);
+    times
+}
+
+fn measure_desk(numbers: &[u64]) {
+    // The current manifest names objects 7 to 18; 18 is the highest of currency 978.
+    let rate = Sheet { object: 18, currency: 978, numerator: 11, denominator: 10 };
+    let sheet = write_sheet(&rate).expect("it is well formed");
+    let proved = sale(proved::sell, numbers, &sheet);
+    print("a sale", &proved, &sale(desk::sell, numbers, &sheet), "-");
+    let proved = card(proved::fill_card, numbers);
+    print("a card of 16", &proved, &card(desk::fill_card, numbers), "-");
 }
 
 /// The proved call gives the same next ledger and verdict.
@@ -140,4 +183,5 @@ fn main() {
     measure("LIST", &ledger, &at(Kind::List { hold: 5 }, &[]));
     measure("LOOK", &ledger, &at(look, &[]));
     measure("COLLECT", &ledger, &at(Kind::Collect, &[]));
+    measure_desk(&numbers);
 }
