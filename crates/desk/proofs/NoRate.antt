@@ -1,11 +1,11 @@
 -- No rate in force, no charge: the sale by its cases, and the LOOK by the history. Assumes nothing.
 use mathlib.Core.Path.{_≡_, refl, sym, ap, subst, _∙_}
 use mathlib.Core.Bool.{Bool, true, false, not, cond, _&&_, true≢false}
-use mathlib.Core.List.{List, [], _∷_, List·Memᴰ·head, List·Memᴰ·tail}
-use Prim.Native.Nat.{ℕ, max, _≤_, _<_}
+use mathlib.Core.List.{List, []}
+use Prim.Native.Nat.{ℕ, _≤_, _<_}
 use native.Mathlib.Omega.{arith}
-use lib.Dec.{leb, ltb, eqb, lit<}
-use borrow.Author.Tests.{ltb-false, leb-true, leb-false, eqb-true, ne-eqb}
+use lib.Dec.{ltb, eqb, lit<}
+use borrow.Author.Tests.{ltb-false, le-ltb, eqb-true, eq-eqb, ne-eqb}
 use Rattle.rules.specs.declared.Kind.the-variants.{Look as LOOK}
 use Rattle.rules.specs.declared.Answer.{Answer}
 use Rattle.rules.specs.declared.Answer.the-variants.{Refused as REFUSED, Done, Epoch, Listed, Found, Collected}
@@ -18,8 +18,8 @@ use Rattle.rules.specs.Request.{Ask}
 use Rattle.rules.specs.Step.{Reply, code}
 use Rattle.rules.specs.Demand3.{historyOf}
 use Rattle.rules.specs.Rates.{heldAt, ratesAt, lookAt}
-use Rattle.rules.proofs.Lists.{and-left, and-right, true-false}
-use Rattle.rules.proofs.Rates.{looks}
+use Rattle.rules.proofs.Lists.{and-left, and-right, and-both, true-false}
+use Rattle.rules.proofs.Rates.{maximum-in, looks}
 use Rattle.ledger.specs.declared.Ledger.{Ledger}
 use Rattle.ledger.specs.declared.StepAnswer.{StepAnswer}
 use Rattle.ledger.specs.Ledger.{lay}
@@ -123,19 +123,6 @@ module _ (l : Ledger) (time : ℕ) (sheet : List ℕ) (currency hold fare : ℕ)
 
 -- ---- by the history
 
-highest-in : (l : List ℕ) → none l ≡ false → maximum l ∈ l
-unfolding none maximum
-highest-in [] e = absurd (true≢false e)
-highest-in (n ∷ []) e = let same : max n 0 ≡ n = omega arith in List·Memᴰ·head same
-highest-in (n ∷ m ∷ ms) e = step (highest-in (m ∷ ms) refl) (leb (maximum (m ∷ ms)) n) refl
-  where
-    step : maximum (m ∷ ms) ∈ m ∷ ms → (b : Bool) → leb (maximum (m ∷ ms)) n ≡ b → max n (maximum (m ∷ ms)) ∈ n ∷ m ∷ ms
-    step i true q =
-        let h = leb-true (maximum (m ∷ ms)) n q in
-        let same : max n (maximum (m ∷ ms)) ≡ n = omega arith in
-        List·Memᴰ·head same
-    step i false q = let h = leb-false (maximum (m ∷ ms)) n q in List·Memᴰ·tail (subst (λ (k : ℕ). k ∈ m ∷ ms) (omega arith) i)
-
 module _ (asks : List Ask) (time currency hold : ℕ) where
   abbrev rates : List ℕ
   rates = ratesAt time (historyOf asks) currency hold
@@ -175,9 +162,17 @@ module _ (asks : List Ask) (time currency hold : ℕ) where
     charged : (n : ℕ) → saleOf (ledgerAfter (lay fresh) asks) time sheet currency hold fare .sale ≡ Charged n → WentBy (ledgerAfter (lay fresh) asks) time sheet currency hold fare n
     charged n q = sale-exact (ledgerAfter (lay fresh) asks) time sheet currency hold fare .charged n q
 
+    sells : (s : Sheet) → decodeSheet sheet ≡ Read s → fare ≤ largestFare → s .currency ≡ currency → lookAt limits time (historyOf asks) currency hold ≡ Found (s .object)
+        → saleOf (ledgerAfter (lay fresh) asks) time sheet currency hold fare .sale ≡ Charged (chargeOf fare (s .numerator) (s .denominator))
+    sells s read few same found =
+        let l = ledgerAfter (lay fresh) asks in
+        let same-sheet : isInForce s (s .object) currency ≡ true = and-both _ _ (eq-eqb (s .object) (s .object) refl) (eq-eqb (s .currency) currency same) in
+        ap (λ (a : SaleAnswer). a .sale) (found-sale l time sheet currency hold fare s read (le-ltb largestFare fare few) (s .object) (answered ∙ found)) ∙ rw same-sheet
+
     pub no-rate : NoRateNoCharge asks time sheet currency hold fare
     no-rate = record {
-      inForce = λ n w. let r = says n w in (subst (λ (k : ℕ). k ∈ rates) (sym (r .0)) (highest-in rates (r .1)), r .0);
+      sells = sells;
+      inForce = λ n w. let r = says n w in (subst (λ (k : ℕ). k ∈ rates) (sym (r .0)) (maximum-in rates (r .1)), r .0);
       noRate = λ e n q. true-false (none rates) e (says n (charged n q) .1);
       noHold = λ some e n q. true≢false (sym (rw (ne-eqb hold 0 (λ z. omega (arith, z)), e)) ∙ says n (charged n q) .2);
     }

@@ -21,7 +21,7 @@ use Rattle.sheets.specs.declared.Sheet.{Sheet}
 use Rattle.sheets.specs.declared.SheetRead.the-variants.{Read}
 use Rattle.sheets.specs.Sheets.{decodeSheet}
 use Rattle.desk.specs.declared.Sale.the-variants.{Charged, Refused}
-use Rattle.desk.specs.Charge.{largestFare, Smallest}
+use Rattle.desk.specs.Charge.{largestFare, chargeOf, Smallest}
 use Rattle.desk.specs.Look.{asked, objectOf, lookOf}
 use Rattle.desk.specs.Sale.{saleOf}
 
@@ -55,6 +55,9 @@ module _ (asks : List Ask) (time : ℕ) (sheet : List ℕ) (currency hold fare :
   ChargesNothing = (n : ℕ) → saleOf (ledgerAfter (lay fresh) asks) time sheet currency hold fare .sale ≡ Charged n → ⊥
 
   pub record NoRateNoCharge : Type 0 where
+    -- by the sheet that a LOOK finds, by the history, a sale is charged
+    pub sells : (s : Sheet) → decodeSheet sheet ≡ Read s → fare ≤ largestFare → s .currency ≡ currency → lookAt limits time (historyOf asks) currency hold ≡ Found (s .object)
+        → saleOf (ledgerAfter (lay fresh) asks) time sheet currency hold fare .sale ≡ Charged (chargeOf fare (s .numerator) (s .denominator))
     -- a sheet that a sale went by is a rate in force, the highest of that currency
     pub inForce : (n : ℕ) (w : WentBy (ledgerAfter (lay fresh) asks) time sheet currency hold fare n)
         → (w .rate .object ∈ ratesAt time (historyOf asks) currency hold) × (w .rate .object ≡ maximum (ratesAt time (historyOf asks) currency hold))

@@ -195,17 +195,17 @@ fn sell_rows(l: Ledger, from: usize, to: usize)
 fn misshapen(l: Ledger) {
     let mut bytes = [0u8; 42];
     sheets::write_sheet(sheet(1, 978, 11, 10), &mut bytes);
-    say::text(b"the same, one byte short");
+    say::text(b"the first sheet, one byte short");
     sell_by(l, part(&bytes, 0, 40), 12, 978, 0, 250);
-    say::text(b"the same, one byte more");
+    say::text(b"the first sheet, one byte more");
     sell_by(l, &bytes, 12, 978, 0, 250);
     bytes[0] = 0x51;
-    say::text(b"the same, outer tag 51");
+    say::text(b"the first sheet, outer tag 51");
     sell_by(l, part(&bytes, 0, 41), 12, 978, 0, 250);
     bytes[0] = 0x50;
     bytes[19] = 0x0D;
     bytes[30] = 0x0C;
-    say::text(b"the same, the denominator first");
+    say::text(b"the first sheet, its last two tags exchanged");
     sell_by(l, part(&bytes, 0, 41), 12, 978, 0, 250);
 }
 

@@ -1,13 +1,13 @@
 -- A LOOK is answered what the history says: its holds, lists and currencies are the ledger's, and what is listed is stored.
 -- Assumes nothing.
-use mathlib.Core.Path.{_≡_, refl, sym, ap, _∙_}
+use mathlib.Core.Path.{_≡_, refl, sym, ap, subst, _∙_}
 use mathlib.Core.Logic.{inr}
-use mathlib.Core.Bool.{Bool, true, false, not, cond, _&&_}
-use mathlib.Core.List.{List, [], _∷_}
-use Prim.Native.Nat.{ℕ, _≤_}
+use mathlib.Core.Bool.{Bool, true, false, not, cond, _&&_, true≢false}
+use mathlib.Core.List.{List, [], _∷_, List·Memᴰ·head, List·Memᴰ·tail}
+use Prim.Native.Nat.{ℕ, max, _≤_}
 use native.Mathlib.Omega.{arith}
-use lib.Dec.{ltb, eqb}
-use borrow.Author.Tests.{ltb-false, eqb-true}
+use lib.Dec.{leb, ltb, eqb}
+use borrow.Author.Tests.{ltb-false, leb-true, leb-false, eqb-true}
 use Rattle.rules.specs.declared.Answer.{Answer}
 use Rattle.rules.specs.declared.Answer.the-variants.{Refused, Found}
 use Rattle.rules.specs.declared.Hold.{Hold}
@@ -30,6 +30,21 @@ use Rattle.rules.proofs.Lists.{any-in, bool-ext, in-any, keep-in, keep-
 use Rattle.rules.proofs.Numbers.{in-has}
 use Rattle.rules.proofs.Settle.{settle-keeps}
 use Rattle.rules.proofs.Soundness.{ledger-from-sound, sound-fresh}
+
+-- ---- the highest of some numbers is one of them
+
+pub maximum-in : (l : List ℕ) → none l ≡ false → maximum l ∈ l
+unfolding none maximum
+maximum-in [] e = absurd (true≢false e)
+maximum-in (n ∷ []) e = let same : max n 0 ≡ n = omega arith in List·Memᴰ·head same
+maximum-in (n ∷ m ∷ ms) e = step (maximum-in (m ∷ ms) refl) (leb (maximum (m ∷ ms)) n) refl
+  where
+    step : maximum (m ∷ ms) ∈ m ∷ ms → (b : Bool) → leb (maximum (m ∷ ms)) n ≡ b → max n (maximum (m ∷ ms)) ∈ n ∷ m ∷ ms
+    step i true q =
+        let h = leb-true (maximum (m ∷ ms)) n q in
+        let same : max n (maximum (m ∷ ms)) ≡ n = omega arith in
+        List·Memᴰ·head same
+    step i false q = let h = leb-false (maximum (m ∷ ms)) n q in List·Memᴰ·tail (subst (λ (k : ℕ). k ∈ m ∷ ms) (omega arith) i)
 
 -- ---- the words of a LOOK, in the ledger and by the history
 
