@@ -1,5 +1,5 @@
 -- What a sale charges (document 02, request 2): "the smallest whole number that, times the denominator, is at least fare times numerator".
--- That it is the smallest is claimed here and proved in proofs/Charge.antt. Assumes nothing.
+-- That it is the smallest is claimed here and proved in proofs/Rounding.antt. Assumes nothing.
 use mathlib.Core.Path.{_≡_}
 use Prim.Native.Nat.{ℕ, _+_, _*_, _-_, _/_, _≤_, _<_}
 

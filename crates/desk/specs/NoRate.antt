@@ -1,4 +1,4 @@
--- "an absent rate must stop the sale" (the customer's first clause): no rate in force in that currency, or no live hold, and no sale is charged. Claimed of any
+-- "an absent rate shall stop the sale" (the customer's first clause): no rate in force in that currency, or no live hold, and no sale is charged. Claimed of any
 -- ledger value by what its step promises, and of every ledger that a caller keeps from fresh on by the history. Proved in proofs/NoRate.antt.
 -- Assumes nothing.
 use mathlib.Core.Path.{_≡_}

@@ -3,17 +3,15 @@ ghost use mathlib.Core.Path.{_≡_};
 ghost use Prim.Native.Nat.{_*_, _≤_};
 ghost use lib.ListN.{length};
 ghost use Rattle.desk.specs.Sale.{saleCode};
-ghost use Rattle.exports.specs.Codec.{writeCode};
 ghost use Rattle.desk_exports.specs.Calls.{narrow, chargeIn, readSheet, writeSheet, sell, rowLimit, rowFrom, putFilled, fillCard};
 use desk::Entry;
 use desk::ROW;
 use desk::Sale;
-use exports::FULL;
 use exports::LEDGER;
 use exports::MALFORMED;
 use exports::NO_PLACE;
+use exports::codec;
 use exports::ledgers;
-use records::Write;
 use sheets::Sheet;
 use sheets::SheetRead;
 
@@ -48,21 +46,9 @@ pub extern "C" fn cuudhaqil_read_sheet(bytes: &[u8], numbers: &mut [u64]) -> u64
     let SheetRead::Read(s) = read else {
         return MALFORMED;
     };
-    numbers[0] = s.object;
-    numbers[1] = s.currency as u64;
-    numbers[2] = s.numerator;
-    numbers[3] = s.denominator;
+    let from = [s.object, s.currency as u64, s.numerator, s.denominator];
+    codec::fill(&from, numbers);
     0
-}
-
-fn write_code(w: Write) -> u64
-    ensures { λ r. ⌜ r ≡ writeCode w ⌝ }
-{
-    match w {
-        Write::Written(n) => n as u64,
-        Write::Malformed => MALFORMED,
-        Write::Full => FULL,
-    }
 }
 
 // Writes the record of a rate sheet, said as the reader says it, at the start of `out`.
@@ -80,7 +66,7 @@ pub extern "C" fn cuudhaqil_write_sheet(numbers: &[u64], out: &mut [u8]) -> u64
         numerator: numbers[2],
         denominator: numbers[3],
     };
-    write_code(sheets::write_sheet(sheet, out))
+    codec::write_code(sheets::write_sheet(sheet, out))
 }
 
 // Sales

@@ -40,7 +40,7 @@ pub fn fill(from: &[u64], to: &mut [u64])
 }
 
 // The writer's answer as a number.
-fn write_code(w: Write) -> u64
+pub fn write_code(w: Write) -> u64
     ensures { λ r. ⌜ r ≡ writeCode w ⌝ }
 {
     match w {

@@ -15,8 +15,7 @@ pub const SHEET: usize = 41;
 // The largest numerator and the largest denominator.
 pub const LARGEST_RATE: u64 = 1000000000;
 
-// The rate of a currency, kept in the object of that number: so many foreign units, the numerator, are the denominator in
-// home units.
+// The rate of a currency, kept in the object of that number: `numerator` units of the currency are `denominator` home units.
 pub struct Sheet {
     pub object: u64,
     pub currency: u16,
