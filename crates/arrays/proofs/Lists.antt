@@ -62,6 +62,18 @@ module _ {A : Type 0} where
   unfolding pad
   take-pad n z xs = take-append-seam xs _
 
+  -- what is read of it is what is read of the list, where past its end z is read
+  pub getD-pad : (n : ℕ) (z : A) (xs : List A) (i : ℕ) → getD (pad n z xs) i z ≡ getD xs i z
+  unfolding pad
+  getD-pad n z xs i = behind (n - length xs) xs i
+    where
+      behind : (k : ℕ) (xs : List A) (i : ℕ) → getD (xs ++ replicate k z) i z ≡ getD xs i z
+      behind zero [] i = refl
+      behind (suc k) [] zero = refl
+      behind (suc k) [] (suc i) = behind k [] i
+      behind k (x ∷ xs) zero = refl
+      behind k (x ∷ xs) (suc i) = behind k xs i
+
   pub pad-none : (n : ℕ) (z : A) → pad n z [] ≡ replicate n z
   unfolding pad
   pad-none n z = ap (λ (k : ℕ). replicate k z) (sub-zero n)

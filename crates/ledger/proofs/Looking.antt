@@ -11,7 +11,6 @@ use Rattle.rules.specs.Limits.{limits}
 use Rattle.rules.specs.Sound.{sound}
 use Rattle.rules.specs.Request.{Request, Asked}
 use Rattle.rules.specs.Step.{answers, effect, granted, verdict}
-use Rattle.ledger.specs.declared.Ledger.{Ledger}
 use Rattle.ledger.specs.Ledger.{lay, view, isSound}
 use Rattle.ledger.specs.Step.{refusedWith, answeredWith, ruled, judged}
 use Rattle.ledger.specs.Look.{Outcome, finds, refuses, LookOutcome}

@@ -7,12 +7,12 @@ use lib.Dec.{eqb}
 use Rattle.rules.specs.declared.Object.{Object}
 use Rattle.rules.specs.State.{Manifest}
 use Rattle.objects.specs.Objects.{roleEpoch}
-use Rattle.manifests.specs.Manifests.{reached}
+use Rattle.manifests.specs.Reach.{reached}
 
 -- "its epoch is its role's current epoch and no manifest since its put has named it"
 abbrev pub pendingBy : ℕ → ℕ → Object → Bool
 pendingBy writer compactor o = eqb (o .epoch) (roleEpoch (o .role) writer compactor) && not (o .named)
 
--- not pending, and named by none of these manifests
+-- not pending, and the reach test finds it in none of these manifests (on rising lists: none names it)
 abbrev pub deadBy : List Manifest → ℕ → ℕ → Object → Bool
 deadBy ms writer compactor o = not (pendingBy writer compactor o) && not (reached ms (o .number))

@@ -1,1 +1,3 @@
 pub mod Manifests
+pub mod Search
+pub mod Reach

@@ -6,7 +6,7 @@ use mathlib.Core.List.{List, [], _∷_, map}
 use Prim.Native.Nat.{ℕ, _+_, _-_, _≤_}
 use lib.Dec.{leb, eqb}
 use lib.ListN.{length, take, drop, getD, replicate}
-use Rattle.rules.specs.Lists.{conj, keep, any, all, has, lookup}
+use Rattle.rules.specs.Lists.{conj, keep, any, all, lookup}
 use Rattle.rules.specs.Limits.{limits, manifestLimit}
 use Rattle.rules.specs.State.{Manifest, firstManifest}
 use Rattle.rules.specs.Step.{heldBy}
@@ -65,15 +65,12 @@ isLaid ms =
 
 -- What is asked of a list of manifests
 
--- one has this number; the one that has it, or manifest 0; some one names the object
+-- one has this number; the one that has it, or manifest 0
 abbrev pub hasNumber : List Manifest → ℕ → Bool
 hasNumber ms k = any (λ m. eqb k (m .number)) ms
 
 abbrev pub numbered : List Manifest → ℕ → Manifest
 numbered ms k = lookup (λ (m : Manifest). m .number) (λ m. m) firstManifest k ms
-
-unfoldable pub reached : List Manifest → ℕ → Bool
-reached ms n = any (λ m. has n (m .names)) ms
 
 -- "the two epochs of a manifest add to at most its number", and neither is below these
 unfoldable pub epochsFollow : ℕ → ℕ → Manifest → Bool

@@ -10,7 +10,8 @@ ghost use Rattle.rules.specs.State.{firstManifest};
 ghost use Rattle.rules.specs.Step.{heldBy};
 ghost use Rattle.rules.specs.Sound.{ordered};
 ghost use Rattle.holds.specs.Holds.{holdsOf};
-ghost use Rattle.manifests.specs.Manifests.{layManifest, manifestOf, manifestsOf, layManifests, currentOf, olderOf, isListLaid, isNoManifest, isLaid, epochsFollow, hasNumber, numbered, reached, Repackable};
+ghost use Rattle.manifests.specs.Manifests.{layManifest, manifestOf, manifestsOf, layManifests, currentOf, olderOf, isListLaid, isNoManifest, isLaid, epochsFollow, hasNumber, numbered, Repackable};
+ghost use Rattle.manifests.specs.Reach.{reachOf};
 use holds::Holds;
 use rules::MANIFESTS;
 use rules::NAMES;
@@ -28,6 +29,12 @@ pub struct KeptManifest {
 pub struct Manifests {
     pub count: usize,
     pub items: [KeptManifest; MANIFESTS],
+}
+
+// What the reach test finds, and how many names of the list in each place it read.
+pub struct Reach {
+    pub found: bool,
+    pub reads: [usize; MANIFESTS],
 }
 
 // A place that is all zero; it is also manifest 0 of the fresh ledger.
@@ -213,28 +220,37 @@ impl Manifests {
         self.items[last]
     }
 
-    // Whether a kept manifest names the object: the loops are left by the label once it is found.
-    pub fn reaches(self, object: u64) -> bool
+    // Whether a kept manifest names the object, and how many names of each list were read to tell. A sound list rises, so it is
+    // searched by halves; the loops are left by the label once the object is found.
+    pub fn reaches(self, object: u64) -> Reach
         requires { ⌜ isLaid self ≡ true ⌝ }
-        ensures { λ r. ⌜ r ≡ reached (manifestsOf self) object ⌝ }
+        ensures { λ r. ⌜ r ≡ reachOf (manifestsOf self) object ⌝ }
     {
         let kept = self.count;
         let mut found = false;
+        let mut reads = [0usize; MANIFESTS];
         let mut i: usize = 0;
         'all: while i < kept {
             let m = self.items[i];
-            let count = m.count;
-            let mut j: usize = 0;
-            while j < count {
-                if m.names[j] == object {
+            let mut low: usize = 0;
+            let mut high = m.count;
+            while low < high {
+                let middle = low + (high - low) / 2;
+                let name = m.names[middle];
+                reads[i] += 1;
+                if name == object {
                     found = true;
                     break 'all;
                 }
-                j += 1;
+                if name < object {
+                    low = middle + 1;
+                } else {
+                    high = middle;
+                }
             }
             i += 1;
         }
-        found
+        Reach { found, reads }
     }
 
     // Of the first n manifests those that a hold names, and behind them `last`, which is then current.
