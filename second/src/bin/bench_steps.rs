@@ -1,7 +1,8 @@
 //! Nanoseconds per accepted step of each kind, on a ledger of 32 objects, 4
 //! manifests and 4 holds: by the proved library's C call, by the second
 //! program through the same call, and by the second program's ledger alone.
-//! Then a sale and a route card on that ledger, by the first two.
+//! Then a COLLECT with a full store and nine full manifests, and a sale and a
+//! route card on the first ledger, the last two by the first two ways.
 //!
 //! The first two judge each time whether the ledger is sound, and the copy of
 //! the ledger before each call is in all three.
@@ -38,15 +39,44 @@ fn at(kind: Kind, list: &[u64]) -> Step {
     Step { time: TIME, kind, list: list.to_vec() }
 }
 
+/// The fresh ledger after two fences of the writer and one of the compactor.
+fn fenced() -> Ledger {
+    let mut ledger = Ledger::fresh();
+    for (slot, role) in [(1, Role::Writer), (2, Role::Compactor), (3, Role::Writer)] {
+        accept(&mut ledger, Kind::Fence { role, slot }, &[]);
+    }
+    ledger
+}
+
+fn accept(ledger: &mut Ledger, kind: Kind, list: &[u64]) {
+    assert_eq!(ledger.step(&at(kind, list)).code(), 0, "{kind:?}");
+}
+
+/// 64 objects, manifests 4 to 12 of 16 names each and a hold on all but the
+/// last. Objects 49 to 64 are named by none, and dead: the writer's epoch is 2.
+fn full() -> Ledger {
+    let mut ledger = fenced();
+    for object in 1..=PLACES as u64 {
+        let put = Kind::Put { role: Role::Writer, epoch: 1, object, currency: 978 };
+        accept(&mut ledger, put, &[]);
+    }
+    for slot in 4..=12 {
+        let first = 4 * (slot - 4) + 1;
+        let list: Vec<u64> = (first..first + NAMES as u64).collect();
+        accept(&mut ledger, Kind::Commit { epoch: 2, slot }, &list);
+        if slot < 12 {
+            accept(&mut ledger, Kind::Hold { hold: slot, manifest: slot, expiry: 0 }, &[]);
+        }
+    }
+    let held = (ledger.objects.len(), ledger.manifests.len(), ledger.holds.len());
+    assert_eq!(held, (PLACES, 9, 8));
+    ledger
+}
+
 /// Objects 1 to 32 of four currencies, manifests 4 to 7 and a hold on each.
 fn sample() -> Ledger {
-    let mut ledger = Ledger::fresh();
-    let mut accept = |kind: Kind, list: &[u64]| {
-        assert_eq!(ledger.step(&at(kind, list)).code(), 0, "{kind:?}");
-    };
-    accept(Kind::Fence { role: Role::Writer, slot: 1 }, &[]);
-    accept(Kind::Fence { role: Role::Compactor, slot: 2 }, &[]);
-    accept(Kind::Fence { role: Role::Writer, slot: 3 }, &[]);
+    let mut ledger = fenced();
+    let mut accept = |kind: Kind, list: &[u64]| accept(&mut ledger, kind, list);
     for object in 1..=32 {
         let currency = [756, 840, 978, 985][object as usize % 4];
         let role = if object % 8 == 0 { Role::Compactor } else { Role::Writer };
@@ -183,5 +213,6 @@ fn main() {
     measure("LIST", &ledger, &at(Kind::List { hold: 5 }, &[]));
     measure("LOOK", &ledger, &at(look, &[]));
     measure("COLLECT", &ledger, &at(Kind::Collect, &[]));
+    measure("COLLECT, full", &full(), &at(Kind::Collect, &[]));
     measure_desk(&numbers);
 }
