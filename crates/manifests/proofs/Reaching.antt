@@ -2,24 +2,23 @@
 -- Assumes nothing.
 use mathlib.Core.Path.{_≡_, refl, sym, ap, ap₂, _∙_}
 use mathlib.Core.Bool.{Bool, true, false, cond, _||_}
-use mathlib.Core.List.{List, [], _∷_, map}
+use mathlib.Core.List.{List, [], _∷_, _++_, append-nil, map}
 use Prim.Native.Nat.{ℕ, zero, suc, _+_, _-_, _/_, _^_, _≤_, _<_}
-use native.Mathlib.Nat.{not-suc-le-zero, le-of-suc-le-suc}
 use native.Mathlib.Numerals.{add-one}
 use native.Mathlib.Omega.{arith}
 use borrow.Author.Tests.{eq-eqb, ne-eqb, lt-ltb, le-ltb}
 use lib.Dec.{ltb, eqb}
 use lib.ListN.{length, take, drop, getD, set, length-map, length-take, List·getD-eq-default}
-use lib.Seq.{slice, slice-empty, length-slice, length-take-le, take-add, take-take, drop-drop, drop-at, getD-take, getD-drop, getD-set-same, set-getD, set-set}
+use lib.Seq.{slice, slice-empty, length-slice, length-take-le, split-at, take-suc, take-add, take-take, drop-drop, drop-at, getD-take, getD-drop, getD-set-same, set-getD, set-set}
 use Rattle.rules.specs.Limits.{limits, manifestLimit}
 use Rattle.rules.specs.Lists.{any, all, has, risingAbove}
 use Rattle.rules.specs.State.{Manifest, firstManifest}
 use Rattle.rules.proofs.Lists.{and-left, and-right, or-false-left, or-false-right}
 use Rattle.arrays.specs.Arrays.{pad}
-use Rattle.arrays.proofs.Lists.{getD-pad, any-map, any-found-in, Filled}
+use Rattle.arrays.proofs.Lists.{getD-pad, map-append, any-map, any-found-in, Filled}
 use Rattle.manifests.specs.declared.KeptManifest.{KeptManifest}
 use Rattle.manifests.specs.declared.Reach.{Reach}
-use Rattle.manifests.specs.Search.{Search, over, afterRead, search}
+use Rattle.manifests.specs.Search.{Search, over, afterRead, middle, part, search}
 use Rattle.manifests.specs.Manifests.{manifestOf, pastEnd}
 use Rattle.manifests.specs.Reach.{reached, readsOf, reachOf, ReachByHalves}
 use Rattle.manifests.proofs.Searching.{search-none, search-next, search-by-halves}
@@ -30,46 +29,42 @@ pub search-empty : (n : ℕ) (l : List ℕ) (low high : ℕ) → low ≡ high �
 search-empty n l low high e = ap (λ (k : ℕ). search n (slice k high l)) e ∙ ap (search n) (slice-empty high l) ∙ search-none n
 
 module _ (n : ℕ) (l : List ℕ) {low high : ℕ} (some : low < high) (room : high ≤ length l) where
-  abbrev middle : ℕ
-  middle = low + (high - low) / 2
+  abbrev at : ℕ
+  at = low + (high - low) / 2
 
-  abbrev name : ℕ
-  name = getD l middle 0
+  abbrev left : List ℕ
+  left = slice low high l
 
-  abbrev part : List ℕ
-  part = slice low high l
-
-  long : length part ≡ high - low
+  long : length left ≡ high - low
   long = length-slice low high l room
 
-  read : getD part (length part / 2) 0 ≡ name
-  read = ap (λ (k : ℕ). getD part (k / 2) 0) long ∙ getD-drop low (take high l) ((high - low) / 2) 0 ∙ getD-take high l middle 0 (omega arith)
+  read : middle left ≡ getD l at 0
+  read = ap (λ (k : ℕ). getD left (k / 2) 0) long ∙ getD-drop low (take high l) ((high - low) / 2) 0 ∙ getD-take high l at 0 (omega arith)
 
-  before : take (length part / 2) part ≡ slice low middle l
-  before =
-      ap (λ (k : ℕ). take (k / 2) part) long
-      ∙ sym (ap (drop low) (sym (take-take middle high l (omega arith)) ∙ take-add low ((high - low) / 2) (take high l))
+  parts : (b : Bool) → part b left ≡ cond b (slice (at + 1) high l) (slice low at l)
+  parts true =
+      let past : low + suc ((high - low) / 2) ≡ at + 1 = omega arith in
+      ap (λ (k : ℕ). drop (suc (k / 2)) left) long ∙ drop-drop (suc ((high - low) / 2)) low (take high l) ∙ ap (λ (k : ℕ). drop k (take high l)) past
+  parts false =
+      ap (λ (k : ℕ). take (k / 2) left) long
+      ∙ sym (ap (drop low) (sym (take-take at high l (omega arith)) ∙ take-add low ((high - low) / 2) (take high l))
       ∙ drop-at (take low (take high l)) _ low (length-take-le low (take high l) (omega (arith, length-take-le high l room))))
 
-  behind : drop (suc (length part / 2)) part ≡ slice (middle + 1) high l
-  behind =
-      let past : low + suc ((high - low) / 2) ≡ middle + 1 = omega arith in
-      ap (λ (k : ℕ). drop (suc (k / 2)) part) long ∙ drop-drop (suc ((high - low) / 2)) low (take high l) ∙ ap (λ (k : ℕ). drop k (take high l)) past
-
-  next : (b c : Bool) → eqb n name ≡ b → ltb name n ≡ c → search n part ≡ afterRead (cond b (over true) (search n (cond c (slice (middle + 1) high l) (slice low middle l))))
+  next : (b c : Bool) → eqb n (getD l at 0) ≡ b → ltb (getD l at 0) n ≡ c
+      → search n left ≡ afterRead (cond b (over true) (search n (cond c (slice (at + 1) high l) (slice low at l))))
   next b c e f =
-      search-next n part (omega (arith, long))
-      ∙ ap (λ (k : ℕ). afterRead (cond (eqb n k) (over true) (search n (cond (ltb k n) (drop (suc (length part / 2)) part) (take (length part / 2) part))))) read
-      ∙ ap₂ (λ (x y : List ℕ). afterRead (cond (eqb n name) (over true) (search n (cond (ltb name n) x y)))) behind before
-      ∙ ap₂ (λ (x y : Bool). afterRead (cond x (over true) (search n (cond y (slice (middle + 1) high l) (slice low middle l))))) e f
+      search-next n left (omega (arith, long))
+      ∙ ap (λ (k : ℕ). afterRead (cond (eqb n k) (over true) (search n (part (ltb k n) left)))) read
+      ∙ ap₂ (λ (x y : Bool). afterRead (cond x (over true) (search n (part y left)))) e f
+      ∙ ap (λ (x : List ℕ). afterRead (cond b (over true) (search n x))) (parts c)
 
-  pub here : name ≡ n → search n part ≡ afterRead (over true)
-  here e = next true (ltb name n) (eq-eqb _ _ (sym e)) refl
+  pub here : getD l at 0 ≡ n → search n left ≡ afterRead (over true)
+  here e = next true (ltb (getD l at 0) n) (eq-eqb _ _ (sym e)) refl
 
-  pub up : (name ≡ n → ⊥) → name < n → search n part ≡ afterRead (search n (slice (middle + 1) high l))
+  pub up : (getD l at 0 ≡ n → ⊥) → getD l at 0 < n → search n left ≡ afterRead (search n (slice (at + 1) high l))
   up d h = next false true (ne-eqb _ _ (λ e. d (sym e))) (lt-ltb _ _ h)
 
-  pub down : (name ≡ n → ⊥) → n ≤ name → search n part ≡ afterRead (search n (slice low middle l))
+  pub down : (getD l at 0 ≡ n → ⊥) → n ≤ getD l at 0 → search n left ≡ afterRead (search n (slice low at l))
   down d h = next false false (ne-eqb _ _ (λ e. d (sym e))) (le-ltb _ _ h)
 
 -- The count so far, and what the rest of the list says, are what the whole list says
@@ -121,45 +116,53 @@ module _ (n : ℕ) where
   abbrev pub counted : KeptManifest → ℕ
   counted m = search n (manifestOf m .names) .reads
 
-  reads-none : (ms : List KeptManifest) → any finds ms ≡ false → readsOf (map manifestOf ms) n ≡ map counted ms
+  reads-passed : (ms rest : List KeptManifest) → any finds ms ≡ false → readsOf (map manifestOf (ms ++ rest)) n ≡ map counted ms ++ readsOf (map manifestOf rest) n
   unfolding any readsOf
-  reads-none [] e = refl
-  reads-none (m ∷ ms) e =
-      ap (λ (b : Bool). counted m ∷ cond b [] (readsOf (map manifestOf ms) n)) (or-false-left (finds m) (any finds ms) e)
-      ∙ ap (λ (l : List ℕ). counted m ∷ l) (reads-none ms (or-false-right (finds m) (any finds ms) e))
-
-  reads-found : (ms : List KeptManifest) (i : ℕ) → i < length ms → any finds (take i ms) ≡ false → finds (getD ms i pastEnd) ≡ true
-      → readsOf (map manifestOf ms) n ≡ map counted (take (suc i) ms)
-  unfolding any readsOf
-  reads-found [] i h e t = absurd (not-suc-le-zero h)
-  reads-found (m ∷ ms) zero h e t = ap (λ (b : Bool). counted m ∷ cond b [] (readsOf (map manifestOf ms) n)) t
-  reads-found (m ∷ ms) (suc i) h e t =
-      ap (λ (b : Bool). counted m ∷ cond b [] (readsOf (map manifestOf ms) n)) (or-false-left (finds m) _ e)
-      ∙ ap (λ (l : List ℕ). counted m ∷ l) (reads-found ms i (le-of-suc-le-suc h) (or-false-right (finds m) _ e) t)
+  reads-passed [] rest e = refl
+  reads-passed (m ∷ ms) rest e =
+      ap (λ (b : Bool). counted m ∷ cond b [] (readsOf (map manifestOf (ms ++ rest)) n)) (or-false-left (finds m) (any finds ms) e)
+      ∙ ap (λ (l : List ℕ). counted m ∷ l) (reads-passed ms rest (or-false-right (finds m) (any finds ms) e))
 
   -- the test's answer where no list has it, and where the one at i is the first
   pub reach-none : {found : Bool} {reads : List ℕ} (ms : List KeptManifest) → found ≡ false → any finds ms ≡ false → reads ≡ pad (manifestLimit limits) 0 (map counted ms)
       → _≡_ {A = Reach} (record { found = found; reads = reads }) (reachOf (map manifestOf ms) n)
-  unfolding reached
+  unfolding reached readsOf
   reach-none ms e none all = λ j. record {
     found = (e ∙ sym none ∙ sym (any-map manifestOf (λ (m : Manifest). search n (m .names) .found) ms)) j;
-    reads = (all ∙ ap (pad (manifestLimit limits) 0) (sym (reads-none ms none))) j;
+    reads = (all ∙ ap (pad (manifestLimit limits) 0) (sym same)) j;
   }
+    where
+      same : readsOf (map manifestOf ms) n ≡ map counted ms
+      same = ap (λ (l : List KeptManifest). readsOf (map manifestOf l) n) (sym (append-nil ms)) ∙ reads-passed ms [] none ∙ append-nil (map counted ms)
 
   pub reach-found : {reads : List ℕ} (count : ℕ) (ms : List KeptManifest) (i : ℕ) → i < count → count ≤ length ms
       → any finds (take i ms) ≡ false → finds (getD ms i pastEnd) ≡ true → reads ≡ pad (manifestLimit limits) 0 (map counted (take (i + 1) ms))
       → _≡_ {A = Reach} (record { found = true; reads = reads }) (reachOf (map manifestOf (take count ms)) n)
-  unfolding reached
+  unfolding reached readsOf
   reach-found {reads} count ms i h room none here all = λ j. record {
     found = sym (any-map manifestOf (λ (m : Manifest). search n (m .names) .found) (take count ms) ∙ any-found-in finds count ms i pastEnd h room here) j;
     reads = (all ∙ ap (pad (manifestLimit limits) 0) (sym same)) j;
   }
     where
+      m : KeptManifest
+      m = getD ms i pastEnd
+
+      rest : List KeptManifest
+      rest = drop (suc i) (take count ms)
+
+      split : take count ms ≡ take i ms ++ m ∷ rest
+      split =
+          split-at (take count ms) i pastEnd (rw (length-take-le count ms room) h)
+          ∙ ap₂ (λ (l : List KeptManifest) (x : KeptManifest). l ++ x ∷ rest) (take-take i count ms (omega arith)) (getD-take count ms i pastEnd h)
+
+      one : readsOf (map manifestOf (m ∷ rest)) n ≡ counted m ∷ []
+      one = ap (λ (b : Bool). counted m ∷ cond b [] (readsOf (map manifestOf rest) n)) here
+
       same : readsOf (map manifestOf (take count ms)) n ≡ map counted (take (i + 1) ms)
       same =
-          reads-found (take count ms) i (rw (length-take-le count ms room) h) (rw (take-take i count ms (omega arith)) none)
-          (rw (getD-take count ms i pastEnd h) here)
-          ∙ ap (map counted) (take-take (suc i) count ms h ∙ ap (λ (k : ℕ). take k ms) (sym (add-one i)))
+          ap (λ (l : List KeptManifest). readsOf (map manifestOf l) n) split ∙ reads-passed (take i ms) (m ∷ rest) none
+          ∙ ap (λ (l : List ℕ). map counted (take i ms) ++ l) one ∙ sym (map-append counted (take i ms) (m ∷ []))
+          ∙ ap (map counted) (sym (take-suc ms i pastEnd (omega arith)) ∙ ap (λ (k : ℕ). take k ms) (sym (add-one i)))
 
 -- Rising lists keep the answer, and each list's count is within its own bound
 

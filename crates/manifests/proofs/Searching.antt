@@ -5,28 +5,19 @@ use mathlib.Core.Logic.{_⊎_, inl, inr}
 use mathlib.Core.Bool.{Bool, true, false, cond}
 use mathlib.Core.List.{List, [], _∷_, _++_, List·Memᴰ·head, List·Memᴰ·tail, List·Memᴰ·not-nil}
 use mathlib.Core.List.{List·Memᴰ·cases-cons, List·Memᴰ·append-cases, Memᴰ·append-left, Memᴰ·append-right}
-use Prim.Native.Nat.{ℕ, zero, suc, _/_, _^_, _≤_, _<_}
+use Prim.Native.Nat.{ℕ, zero, suc, _^_, _≤_, _<_}
 use native.Mathlib.Nat.{le-refl, two-pow-succ}
 use native.Mathlib.Omega.{arith}
 use borrow.Author.Tests.{ltb-true, ltb-false, eqb-true, eqb-false}
 use lib.Dec.{ltb, eqb}
-use lib.ListN.{length, take, drop, getD, length-take, length-drop}
+use lib.ListN.{length, take, drop, length-take, length-drop}
 use lib.Seq.{split-at}
 use Rattle.rules.specs.Lists.{_∈_, any, has, risingAbove, maximum}
 use Rattle.rules.proofs.Lists.{and-left, and-right, and-both, bool-ext}
 use Rattle.rules.proofs.Numbers.{has-in, in-has, rising-above}
-use Rattle.manifests.specs.Search.{Search, over, afterRead, searchIn, search, upTo, SearchByHalves}
+use Rattle.manifests.specs.Search.{Search, over, afterRead, half, middle, part, searchIn, search, upTo, SearchByHalves}
 
-abbrev half : List ℕ → ℕ
-half l = length l / 2
-
-abbrev middle : List ℕ → ℕ
-middle l = getD l (half l) 0
-
--- the half behind the middle, or the one before it: no longer than half of the list
-abbrev part : Bool → List ℕ → List ℕ
-part b l = cond b (drop (suc (half l)) l) (take (half l) l)
-
+-- neither part is longer than half of the list
 part-length : (b : Bool) (l : List ℕ) → length (part b l) ≤ half l
 part-length true l = omega (arith, length-drop (suc (half l)) l)
 part-length false l = omega (arith, length-take (half l) l)
@@ -52,7 +43,7 @@ enough (suc j) (suc k) n (x ∷ xs) h i =
 
 -- the next read of a list that is not empty
 pub search-next : (n : ℕ) (l : List ℕ) → 0 < length l
-    → search n l ≡ afterRead (cond (eqb n (getD l (half l) 0)) (over true) (search n (cond (ltb (getD l (half l) 0) n) (drop (suc (half l)) l) (take (half l) l))))
+    → search n l ≡ afterRead (cond (eqb n (middle l)) (over true) (search n (part (ltb (middle l) n) l)))
 unfolding search searchIn
 search-next n [] h = absurd (omega arith)
 search-next n (x ∷ xs) h =

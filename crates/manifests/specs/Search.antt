@@ -20,15 +20,24 @@ over b = record { found = b; reads = 0 }
 abbrev pub afterRead : Search → Search
 afterRead s = record { found = s .found; reads = suc (s .reads) }
 
--- The name in the middle is read. Where it is another, the search goes on behind it or before it.
+-- the place in the middle, the name there, and the names behind it or those before it
+abbrev pub half : List ℕ → ℕ
+half l = length l / 2
+
+abbrev pub middle : List ℕ → ℕ
+middle l = getD l (half l) 0
+
+abbrev pub part : Bool → List ℕ → List ℕ
+part isBehind l = cond isBehind (drop (suc (half l)) l) (take (half l) l)
+
+-- The name in the middle is read. Where it is another, the search goes on behind it if it is below n, else before it.
 -- The first number is how often the list may be halved: its length is always enough.
 unfoldable pub searchIn : ℕ → ℕ → List ℕ → Search
 searchIn zero n l = over false
 searchIn (suc k) n [] = over false
 searchIn (suc k) n (x ∷ xs) =
-    let half = length (x ∷ xs) / 2 in
-    let middle = getD (x ∷ xs) half 0 in
-    afterRead (cond (eqb n middle) (over true) (searchIn k n (cond (ltb middle n) (drop (suc half) (x ∷ xs)) (take half (x ∷ xs)))))
+    let l = x ∷ xs in
+    afterRead (cond (eqb n (middle l)) (over true) (searchIn k n (part (ltb (middle l) n) l)))
 
 unfoldable pub search : ℕ → List ℕ → Search
 search n l = searchIn (length l) n l

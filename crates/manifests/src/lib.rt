@@ -220,8 +220,8 @@ impl Manifests {
         self.items[last]
     }
 
-    // Whether a kept manifest names the object, and how many names of each list were read to tell. A sound list rises, so it is
-    // searched by halves; the loops are left by the label once the object is found.
+    // Whether a kept manifest names the object, and how many names of each list were read to tell, counted where they are read.
+    // A sound list rises, so it is searched by halves; the loops are left by the label once the object is found.
     pub fn reaches(self, object: u64) -> Reach
         requires { ⌜ isLaid self ≡ true ⌝ }
         ensures { λ r. ⌜ r ≡ reachOf (manifestsOf self) object ⌝ }
