@@ -27,3 +27,5 @@ pub mod Whole
 pub mod Rates
 pub mod Laws
 pub mod Typed
+pub mod Wider
+pub mod Raised

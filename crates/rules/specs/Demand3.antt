@@ -16,7 +16,7 @@ use Rattle.rules.specs.State.{State, freshIn, fresh}
 use Rattle.rules.specs.Words.{stored, listed}
 use Rattle.rules.specs.Sound.{sound}
 use Rattle.rules.specs.Request.{Asked, Ask}
-use Rattle.rules.specs.Step.{reply, accepts, next}
+use Rattle.rules.specs.Step.{reply, accepts, next, longestVerdict}
 use Rattle.rules.specs.History.{History, Event, atFirst, currentNumber, makers, storedAt, listedAt, deadAt, historyFrom}
 use Rattle.rules.specs.Agreement.{Agrees}
 
@@ -68,6 +68,6 @@ pub record Whole (asks : List Ask) : Type 0 where
   -- the nth accepted FENCE, COMMIT or COMPACT made manifest n, and the highest is current
   pub counted : ledgerOf asks .current .number ≡ length (makers (eventsFrom limits (sound limits) fresh asks))
   -- a collection asked at the clock's time or later, with room for the longest verdict, is accepted
-  pub collectable : (t room : ℕ) → ledgerOf asks .clock ≤ t → 522 ≤ room → accepts limits (sound limits) (ledgerOf asks) (record { request = Asked t COLLECT []; room = room }) ≡ true
+  pub collectable : (t room : ℕ) → ledgerOf asks .clock ≤ t → longestVerdict ≤ room → accepts limits (sound limits) (ledgerOf asks) (record { request = Asked t COLLECT []; room = room }) ≡ true
   pub oneList : (t : ℕ) (l k : List ℕ) → risingAbove 0 l ≡ true → risingAbove 0 k ≡ true
       → ((n : ℕ) → has n l ≡ deadAt t (historyOf asks) n) → ((n : ℕ) → has n k ≡ deadAt t (historyOf asks) n) → l ≡ k

@@ -10,7 +10,7 @@ use Rattle.rules.specs.Limits.{limits}
 use Rattle.rules.specs.State.{State, fresh}
 use Rattle.rules.specs.Sound.{sound}
 use Rattle.rules.specs.Request.{Request, Asked}
-use Rattle.rules.specs.Step.{Reply, alone, reply, next}
+use Rattle.rules.specs.Step.{Reply, alone, reply, next, longestVerdict}
 
 pub data Case : Type 0 where
   -- the request, and the reply that is claimed
@@ -19,7 +19,7 @@ pub data Case : Type 0 where
 
 -- each case is given the ledger that the one before it left, and there is room for the longest verdict
 abbrev pub after : State → Request → State
-after s q = next limits (sound limits) s (record { request = q; room = 522 })
+after s q = next limits (sound limits) s (record { request = q; room = longestVerdict })
 
 unfoldable pub Holds : State → List Case → Type 0
 Holds s [] = Unit {0}

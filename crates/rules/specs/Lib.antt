@@ -15,3 +15,4 @@ pub mod Depot
 pub mod WriteOnce
 pub mod OutOfOrder
 pub mod Rates
+pub mod Raised

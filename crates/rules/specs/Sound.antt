@@ -42,7 +42,7 @@ ordered n w c (m ∷ ms) =
 unfoldable pub nameSound : State → ℕ → Bool
 nameSound s n = any (λ o. eqb n (o .number) && o .named) (objects s)
 
--- "a strictly rising list of at most 16 object numbers", each sound
+-- "a strictly rising list of at most 16 object numbers", by now 64, each sound
 unfoldable pub manifestSound : Limits → State → Manifest → Bool
 manifestSound L s m = conj (risingAbove 0 (m .names) ∷ leb (length (m .names)) (L .names) ∷ all (nameSound s) (m .names) ∷ [])
 

@@ -12,7 +12,7 @@ use Rattle.rules.specs.declared.Hold.{Hold}
 use Rattle.rules.specs.Lists.{keep}
 use Rattle.rules.specs.Limits.{Limits, limits}
 
--- "Each has number, writer epoch, compactor epoch and a strictly rising list of at most 16 object numbers" (000: manifests, their contiguous ids, and the
+-- "Each has number, writer epoch, compactor epoch and a strictly rising list of at most 16 object numbers", by now 64 (000: manifests, their contiguous ids, and the
 -- epochs that tell a writer that was fenced)
 pub record Manifest : Type 0 where
   pub number : ℕ

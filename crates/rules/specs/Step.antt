@@ -14,7 +14,7 @@ use Rattle.rules.specs.declared.Answer.the-variants.{Refused, Done, Epoc
 use Rattle.rules.specs.declared.Object.{Object}
 use Rattle.rules.specs.declared.Hold.{Hold}
 use Rattle.rules.specs.Lists.{keep, any, has, sorted, maximum}
-use Rattle.rules.specs.Limits.{Limits}
+use Rattle.rules.specs.Limits.{Limits, limits}
 use Rattle.rules.specs.State.{Manifest, State, free, occupied, objects, kept, epochOf}
 use Rattle.rules.specs.Words.{liveHolds, readBy, dead, ofCurrency, compacted}
 use Rattle.rules.specs.Request.{Request, Asked, Unreadable, Ask}
@@ -159,6 +159,10 @@ sizeOf Collected k = 10 + 8 * k
 
 abbrev pub size : Reply → ℕ
 size r = sizeOf (r .answer) (length (r .list))
+
+-- "the longest verdict becomes 2,058 bytes" (document 02, request 4): every place collected
+abbrev pub longestVerdict : ℕ
+longestVerdict = sizeOf Collected (limits .places)
 
 -- A request's effect and reply where it is accepted
 

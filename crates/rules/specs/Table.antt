@@ -72,7 +72,7 @@ row9 s n = stored s n
 abbrev pub row10 : State → ℕ → Bool
 row10 s n = leb n (s .highestCollected) && not (stored s n)
 
--- "PUT: 64 objects stored"
+-- "PUT: 64 objects stored", by now 256 (document 02, request 4)
 abbrev pub row11 : Limits → State → Bool
 row11 L s = leb (L .places) (length (objects s))
 

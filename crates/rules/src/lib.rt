@@ -7,15 +7,19 @@ ghost use Rattle.rules.specs.Limits.{limits};
 ghost use Rattle.rules.specs.Table.{expiryFits, wellFormed};
 ghost use Rattle.rules.specs.Typed.{isPadded, requestOf, canSay};
 
-// The limits of document 01, each named once: objects stored, object numbers in a manifest, holds, kept manifests (each
-// but the current one is held), and the largest number of a currency.
-pub const PLACES: usize = 64;
+// The limits of documents 01 and 02, each named once: the bits of an occupancy word and the words, so the objects stored;
+// object numbers in a manifest; holds; kept manifests (each but the current one is held); the largest number of a currency.
+pub const BITS: usize = 64;
 
-pub const NAMES: usize = 16;
+pub const WORDS: usize = 4;
+
+pub const PLACES: usize = WORDS * BITS;
+
+pub const NAMES: usize = 64;
 
 pub const HOLDS: usize = 8;
 
-pub const MANIFESTS: usize = 9;
+pub const MANIFESTS: usize = HOLDS + 1;
 
 pub const LARGEST_CURRENCY: u16 = 999;
 
