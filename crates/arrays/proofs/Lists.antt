@@ -1,14 +1,14 @@
 -- Laws of the plain list functions of `specs/Lists.antt`, for any element type and any length.
 -- Assumes nothing.
 use mathlib.Core.Path.{_≡_, refl, sym, ap, ap₂, _∙_}
-use mathlib.Core.Bool.{Bool, true, false, cond, _||_, or-true, or-assoc}
+use mathlib.Core.Bool.{Bool, true, false, not, cond, _&&_, _||_, or-true, or-assoc}
 use mathlib.Core.List.{List, [], _∷_, _++_, append-nil, map, head-eq-of-cons-eq, tail-eq-of-cons-eq}
 use Prim.Native.Nat.{ℕ, zero, suc, _+_, _-_, _≤_, _<_}
 use native.Mathlib.Nat.{sub-zero, not-suc-le-zero, le-of-suc-le-suc}
 use native.Mathlib.Omega.{arith}
 use native.Mathlib.Numerals.{add-one}
 use lib.ListN.{length, getD, take, drop, set, replicate, length-append, length-take, length-replicate, length-map, take-append-drop, length-drop}
-use lib.Seq.{take-suc, set-append-seam, append-snoc, take-append-seam, length-take-le, getD-take, drop-append-add, drop-append-seam}
+use lib.Seq.{take-all, take-suc, set-append-seam, append-snoc, take-append-seam, length-take-le, getD-take, drop-append-add, drop-append-seam}
 use Rattle.rules.specs.Lists.{keep, any, all}
 use Rattle.rules.proofs.Lists.{and-left, and-right, and-both}
 use Rattle.arrays.specs.Arrays.{pad}
@@ -153,6 +153,43 @@ module _ {A B : Type 0} (g : A → B) where
   map-append [] ys = refl
   map-append (x ∷ xs) ys = ap (λ (r : List B). g x ∷ r) (map-append xs ys)
 
+-- What a filter and a test ask together
+module _ {A : Type 0} (p : A → Bool) where
+  pub any-keep : (q : A → Bool) (xs : List A) → any p (keep q xs) ≡ any (λ x. q x && p x) xs
+  unfolding any keep
+  any-keep q [] = refl
+  any-keep q (x ∷ xs) = go (q x) (any-keep q xs)
+    where
+      go : (b : Bool) → any p (keep q xs) ≡ any (λ x. q x && p x) xs → any p (cond b (x ∷ keep q xs) (keep q xs)) ≡ ((b && p x) || any (λ x. q x && p x) xs)
+      go true e = ap (λ (b : Bool). p x || b) e
+      go false e = e
+
+  pub and-any : (b : Bool) (xs : List A) → (b && any p xs) ≡ any (λ x. b && p x) xs
+  unfolding any
+  and-any true xs = refl
+  and-any false [] = refl
+  and-any false (x ∷ xs) = and-any false xs
+
+  pub not-all : (xs : List A) → not (all p xs) ≡ any (λ x. not (p x)) xs
+  unfolding any all
+  not-all [] = refl
+  not-all (x ∷ xs) = go (p x) (not-all xs)
+    where
+      go : (b : Bool) → not (all p xs) ≡ any (λ x. not (p x)) xs → not (b && all p xs) ≡ (not b || any (λ x. not (p x)) xs)
+      go true e = e
+      go false e = refl
+
+module _ {A B : Type 0} (f : A → B) where
+  pub map-take : (n : ℕ) (xs : List A) → map f (take n xs) ≡ take n (map f xs)
+  map-take zero xs = refl
+  map-take (suc n) [] = refl
+  map-take (suc n) (x ∷ xs) = ap (λ (r : List B). f x ∷ r) (map-take n xs)
+
+  pub map-drop : (n : ℕ) (xs : List A) → map f (drop n xs) ≡ drop n (map f xs)
+  map-drop zero xs = refl
+  map-drop (suc n) [] = refl
+  map-drop (suc n) (x ∷ xs) = map-drop n xs
+
 module _ {A B : Type 0} (f : A → B) (p : B → Bool) where
   pub any-map : (xs : List A) → any p (map f xs) ≡ any (λ x. p (f x)) xs
   unfolding any
@@ -202,6 +239,11 @@ module _ {A B : Type 0} (k : ℕ) (z : B) (f : A → B) (l : List A) where
       ∙ ap (λ (m : ℕ). set (pad k z (map f (take i l))) m (f (getD l i d))) (sym long)
       ∙ pad-set k z (map f (take i l)) (f (getD l i d)) (omega arith)
       ∙ ap (pad k z) (sym (map-append f (take i l) (getD l i d ∷ [])) ∙ ap (map f) more)
+
+  -- filled to the end
+  pub filled-all : {a : List B} → length l ≡ k → Filled k a → a ≡ map f l
+  filled-all long done =
+      done ∙ ap (λ (m : List A). pad k z (map f m)) (take-all k l (omega arith)) ∙ pad-full k z (map f l) (length-map l f ∙ long)
 
 pub filled-count : {A B : Type 0} (f : A → B) (i : ℕ) (l : List A) → i ≤ length l → i ≡ length (map f (take i l))
 filled-count f i l h = sym (length-map (take i l) f ∙ length-take-le i l h)

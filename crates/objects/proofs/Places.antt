@@ -1,127 +1,185 @@
 -- What the type of the objects and their layout tell of the places, and what each place adds to what is asked of them.
 -- Assumes nothing.
-use mathlib.Core.Path.{_≡_, refl, sym, ap, _∙_}
-use mathlib.Core.Bool.{Bool, true, false, not, cond, _||_}
+use mathlib.Core.Path.{_≡_, refl, sym, ap, ap₂, _∙_}
+use mathlib.Core.Bool.{Bool, true, false, not, cond, _&&_, false≢true, and-true, and-false}
 use mathlib.Core.List.{List, [], _∷_, map}
-use Prim.Native.Nat.{ℕ, suc, _+_}
+use Prim.Native.Nat.{ℕ, suc, _+_, _≤_, _<_}
 use native.Mathlib.Omega.{arith}
 use borrow.Author.Tests.{ne-eqb, eq-eqb, eqb-true, eqb-false, not-true, not-false}
 use lib.Dec.{eqb}
-use lib.ListN.{length, length-map}
+use lib.ListN.{length, set, length-map}
 use mir.Val.{Val}
 use denote.Laws.{Is}
+use denote.Struct.Field.{u64-field}
 use Rattle.rules.specs.declared.Object.{Object}
-use Rattle.rules.specs.Lists.{keep, any, has, lookup, distinct}
+use Rattle.rules.specs.Limits.{limits, wordCount, wordBits}
+use Rattle.rules.specs.Lists.{keep, has, lookup, distinct}
 use Rattle.rules.specs.State.{occupied}
 use Rattle.rules.specs.Step.{mark}
-use Rattle.rules.proofs.Lists.{true-false}
+use Rattle.rules.specs.Table.{nonzero}
+use Rattle.rules.proofs.Lists.{and-left, and-right, and-both, any-same}
 use Rattle.rules.proofs.Laws
 use Rattle.rules.proofs.Object as object
-use Rattle.arrays.proofs.Lists.{any-map}
+use Rattle.arrays.proofs.Lists.{any-keep, and-any, any-map, map-set}
 use Rattle.objects.specs.declared.Objects.{Objects}
-use Rattle.objects.specs.Occupancy.{word, flags, used, lowestFree}
-use Rattle.objects.specs.Objects.{layPlaces, isLaid, storedIn, numbersIn}
-use Rattle.objects.proofs.Words.{flags-word}
+use Rattle.objects.specs.Occupancy.{wordsOf, flagsOf, used, lowestFree, withFlag, ByWords}
+use Rattle.objects.specs.Objects.{wordsAt, layPlaces, same, isLaid, numbersAt, namedAt, currenciesAt, among, beside, currencyAmong, storedIn, currencyIn, namedIn, numbersIn}
+use Rattle.objects.proofs.Words.{occupancy-by-words, length-words}
 use Rattle.objects.proofs.Objects as objects
 
-pub items-long : (o : Objects) (vs : List Val) → Is objects.the-row o vs → length (o .items) ≡ 64
+pub items-long : (o : Objects) (vs : List Val) → Is objects.the-row o vs → length (o .items) ≡ limits .places
 items-long o vs is = sym (length-map (o .items) (object.the-field .into)) ∙ is .1 .1 .1 .0 .1 .0 .1
 
--- an object with a number that is not 0 is stored
-pub is-used : (o : Object) (n : ℕ) → (n ≡ 0 → ⊥) → o .number ≡ n → occupied o ≡ true
-is-used o n f e = ap not (ne-eqb (o .number) 0 (λ z. f (sym e ∙ z)))
+pub words-long : (o : Objects) (vs : List Val) → Is objects.the-row o vs → length (o .occupancy) ≡ wordCount
+words-long o vs is = sym (length-map (o .occupancy) (u64-field .into)) ∙ is .1 .1 .0 .1 .0 .1
 
--- no stored object has number 0
-pub not-zero : (o : Object) → occupied o ≡ true → eqb 0 (o .number) ≡ false
-not-zero o e = ne-eqb 0 (o .number) (λ z. eqb-false (o .number) 0 (not-true _ e) (sym z))
+-- Numbers that are looked up among those of the places
 
-module _ (p : Object → Bool) where
-  pub seek-hit : (o : Object) (os : List Object) → occupied o ≡ true → p o ≡ true → any p (keep occupied (o ∷ os)) ≡ true
-  unfolding keep any
-  seek-hit o os u e = rw (u, e)
-
-  -- an object that fails the test adds nothing, stored or not
-  pub seek-miss : (o : Object) (os : List Object) → p o ≡ false → any p (keep occupied (o ∷ os)) ≡ any p (keep occupied os)
-  unfolding keep any
-  seek-miss o os e = step (occupied o)
-    where
-      step : (b : Bool) → any p (cond b (o ∷ keep occupied os) (keep occupied os)) ≡ any p (keep occupied os)
-      step true = ap (λ (b : Bool). b || any p (keep occupied os)) e
-      step false = refl
-
-  -- where no stored object can pass
-  pub seek-none : ((o : Object) → occupied o ≡ true → p o ≡ false) → (os : List Object) → any p (keep occupied os) ≡ false
-  unfolding keep any
-  seek-none f [] = refl
-  seek-none f (o ∷ os) = step (occupied o) refl (seek-none f os)
-    where
-      step : (b : Bool) → occupied o ≡ b → any p (keep occupied os) ≡ false → any p (cond b (o ∷ keep occupied os) (keep occupied os)) ≡ false
-      step true u r = ap (λ (b : Bool). b || any p (keep occupied os)) (f o u) ∙ r
-      step false u r = r
-
-module _ {B : Type 0} (value : Object → B) (default : B) (n : ℕ) where
-  abbrev found : List Object → B
-  found os = lookup (λ (o : Object). o .number) value default n os
-
-  pub find-hit : (o : Object) (os : List Object) → occupied o ≡ true → eqb n (o .number) ≡ true → found (keep occupied (o ∷ os)) ≡ value o
-  unfolding keep lookup
-  find-hit o os u e = rw (u, e)
-
-  pub find-miss : (o : Object) (os : List Object) → eqb n (o .number) ≡ false → found (keep occupied (o ∷ os)) ≡ found (keep occupied os)
-  unfolding keep lookup
-  find-miss o os e = step (occupied o)
-    where
-      step : (b : Bool) → found (cond b (o ∷ keep occupied os) (keep occupied os)) ≡ found (keep occupied os)
-      step true = ap (λ (b : Bool). cond b (value o) (found (keep occupied os))) e
-      step false = refl
-
-pub find-zero : {B : Type 0} (value : Object → B) (default : B) (os : List Object) → lookup (λ (o : Object). o .number) value default 0 (keep occupied os) ≡ default
-unfolding keep lookup
-find-zero value default [] = refl
-find-zero {B} value default (o ∷ os) = step (occupied o) refl (find-zero value default os)
+-- two tests that agree on the number n agree where it is found
+same-test : (q : ℕ → Bool) (n m : ℕ) → (q m && eqb n m) ≡ (q n && eqb n m)
+same-test q n m = step (eqb n m) refl
   where
-    found : List Object → B
-    found l = lookup (λ (o : Object). o .number) value default 0 l
+    step : (b : Bool) → eqb n m ≡ b → (q m && b) ≡ (q n && b)
+    step true e = ap (λ (k : ℕ). q k && true) (sym (eqb-true n m e))
+    step false e = and-false (q m) ∙ sym (and-false (q n))
 
-    step : (b : Bool) → occupied o ≡ b → found (keep occupied os) ≡ default → found (cond b (o ∷ keep occupied os) (keep occupied os)) ≡ default
-    step true u r = ap (λ (b : Bool). cond b (value o) (found (keep occupied os))) (not-zero o u) ∙ r
-    step false u r = r
+-- the number of a free place is none that is looked for
+not-sought : (n : ℕ) → (nonzero n && eqb n 0) ≡ false
+not-sought n = step (eqb n 0)
+  where
+    step : (b : Bool) → (not b && b) ≡ false
+    step true = refl
+    step false = refl
+
+pub stored-among : (os : List Object) (n : ℕ) → storedIn os n ≡ among (numbersAt os) n
+unfolding among has
+stored-among os n =
+    any-keep (λ (o : Object). eqb n (o .number)) occupied os
+    ∙ any-same _ _ os (λ o i. same-test nonzero n (o .number))
+    ∙ sym (ap (λ (b : Bool). nonzero n && b) (any-map (λ (o : Object). o .number) (eqb n) os) ∙ and-any (λ (o : Object). eqb n (o .number)) (nonzero n) os)
+
+pub named-among : (os : List Object) (n : ℕ) → namedIn os n ≡ among (namedAt os) n
+unfolding among has
+named-among os n =
+    any-keep (λ (o : Object). eqb n (o .number) && o .named) occupied os
+    ∙ any-same _ _ os (λ o i. step o (o .named))
+    ∙ sym (ap (λ (b : Bool). nonzero n && b) (any-map (λ (o : Object). cond (o .named) (o .number) 0) (eqb n) os)
+    ∙ and-any (λ (o : Object). eqb n (cond (o .named) (o .number) 0)) (nonzero n) os)
+  where
+    step : (o : Object) (b : Bool) → (occupied o && (eqb n (o .number) && b)) ≡ (nonzero n && eqb n (cond b (o .number) 0))
+    step o true = ap (λ (b : Bool). occupied o && b) (and-true (eqb n (o .number))) ∙ same-test nonzero n (o .number)
+    step o false = ap (λ (b : Bool). occupied o && b) (and-false (eqb n (o .number))) ∙ and-false (occupied o) ∙ sym (not-sought n)
+
+-- the currency beside a number that is not a free place's
+currency-beside : (n : ℕ) → nonzero n ≡ true → (os : List Object) → beside (numbersAt os) (currenciesAt os) n ≡ currencyIn os n
+unfolding beside keep lookup
+currency-beside n some [] = refl
+currency-beside n some (o ∷ os) = step (occupied o) refl (currency-beside n some os)
+  where
+    ask : List Object → ℕ
+    ask l = lookup (λ (o : Object). o .number) (λ o. o .currency) 0 n l
+
+    step : (b : Bool) → occupied o ≡ b → beside (numbersAt os) (currenciesAt os) n ≡ ask (keep occupied os)
+        → cond (eqb n (o .number)) (o .currency) (beside (numbersAt os) (currenciesAt os) n) ≡ ask (cond b (o ∷ keep occupied os) (keep occupied os))
+    step true u e = ap (λ (c : ℕ). cond (eqb n (o .number)) (o .currency) c) e
+    step false u e =
+        let z : o .number ≡ 0 = eqb-true (o .number) 0 (not-false _ u) in
+        ap (λ (m : ℕ). cond (eqb n m) (o .currency) (beside (numbersAt os) (currenciesAt os) n)) z
+        ∙ ap (λ (b : Bool). cond b (o .currency) (beside (numbersAt os) (currenciesAt os) n)) (not-true (eqb n 0) some) ∙ e
+
+find-zero : (os : List Object) → currencyIn os 0 ≡ 0
+unfolding keep lookup
+find-zero [] = refl
+find-zero (o ∷ os) = step (eqb (o .number) 0) refl (find-zero os)
+  where
+    ask : List Object → ℕ
+    ask l = lookup (λ (o : Object). o .number) (λ o. o .currency) 0 0 l
+
+    step : (b : Bool) → eqb (o .number) 0 ≡ b → ask (keep occupied os) ≡ 0 → ask (cond (not b) (o ∷ keep occupied os) (keep occupied os)) ≡ 0
+    step true u e = e
+    step false u e = ap (λ (b : Bool). cond b (o .currency) (ask (keep occupied os))) (ne-eqb 0 (o .number) (λ z. eqb-false (o .number) 0 u (sym z))) ∙ e
+
+pub currency-among : (os : List Object) (n : ℕ) → currencyAmong (numbersAt os) (currenciesAt os) n ≡ currencyIn os n
+currency-among os n = step (nonzero n) refl
+  where
+    step : (b : Bool) → nonzero n ≡ b → cond b (beside (numbersAt os) (currenciesAt os) n) 0 ≡ currencyIn os n
+    step true e = currency-beside n e os
+    step false e = sym (ap (currencyIn os) (eqb-true n 0 (not-false _ e)) ∙ find-zero os)
+
+-- there is a currency for each number
+pub pair-long : {ns cs : List ℕ} (ps : List Object) → ns ≡ numbersAt ps → cs ≡ currenciesAt ps → length ns ≤ length cs
+pair-long ps n c =
+    let a = ap length n ∙ length-map ps (λ (o : Object). o .number) in
+    let b = ap length c ∙ length-map ps (λ (o : Object). o .currency) in
+    omega arith
 
 -- Distinct numbers
 
-has-number : (n : ℕ) (os : List Object) → has n (numbersIn os) ≡ storedIn os n
-unfolding has
-has-number n os = any-map (λ (o : Object). o .number) (eqb n) (keep occupied os)
-
-pub distinct-miss : (o : Object) (os : List Object) → storedIn os (o .number) ≡ true → distinct (numbersIn (o ∷ os)) ≡ false
-unfolding keep distinct
-distinct-miss o os e = step (occupied o) refl
+pub numbers-kept : (os : List Object) → numbersIn os ≡ keep nonzero (numbersAt os)
+unfolding keep
+numbers-kept [] = refl
+numbers-kept (o ∷ os) = step (occupied o) (numbers-kept os)
   where
-    -- a free place has number 0, which is never stored
-    step : (b : Bool) → occupied o ≡ b → distinct (map (λ (o : Object). o .number) (cond b (o ∷ keep occupied os) (keep occupied os))) ≡ false
-    step true u = rw (has-number (o .number) os, e)
-    step false u =
-        let z : o .number ≡ 0 = eqb-true (o .number) 0 (not-false _ u) in
-        true-false _ e (ap (storedIn os) z ∙ seek-none (λ (o : Object). eqb 0 (o .number)) not-zero os)
+    step : (b : Bool) → numbersIn os ≡ keep nonzero (numbersAt os)
+        → numbersAt (cond b (o ∷ keep occupied os) (keep occupied os)) ≡ cond b (o .number ∷ keep nonzero (numbersAt os)) (keep nonzero (numbersAt os))
+    step true e = ap (λ (l : List ℕ). o .number ∷ l) e
+    step false e = e
 
-pub distinct-hit : (o : Object) (os : List Object) → storedIn os (o .number) ≡ false → distinct (numbersIn (o ∷ os)) ≡ distinct (numbersIn os)
-unfolding keep distinct
-distinct-hit o os e = step (occupied o)
-  where
-    step : (b : Bool) → distinct (map (λ (o : Object). o .number) (cond b (o ∷ keep occupied os) (keep occupied os))) ≡ distinct (numbersIn os)
-    step true = rw (has-number (o .number) os, e)
-    step false = refl
+has-kept : (n : ℕ) (ns : List ℕ) → has n (keep nonzero ns) ≡ among ns n
+unfolding has among
+has-kept n ns = any-keep (eqb n) nonzero ns ∙ any-same _ _ ns (λ m i. same-test nonzero n m) ∙ sym (and-any (eqb n) (nonzero n) ns)
 
--- The occupancy word
+module _ (n : ℕ) (ns : List ℕ) where
+  pub distinct-miss : among ns n ≡ true → distinct (keep nonzero (n ∷ ns)) ≡ false
+  unfolding keep distinct among
+  distinct-miss e = rw (and-left (nonzero n) _ e, has-kept n ns, e)
 
-pub laid-word : (o : Objects) → isLaid o ≡ true → o .occupancy ≡ word (map occupied (o .items))
-laid-word o e = eqb-true (o .occupancy) _ e
+  pub distinct-hit : among ns n ≡ false → distinct (keep nonzero (n ∷ ns)) ≡ distinct (keep nonzero ns)
+  unfolding keep distinct
+  distinct-hit e = step (nonzero n)
+    where
+      step : (b : Bool) → distinct (cond b (n ∷ keep nonzero ns) (keep nonzero ns)) ≡ distinct (keep nonzero ns)
+      step true = rw (has-kept n ns, e)
+      step false = refl
 
--- the word's flags say which places are taken
-pub laid-flags : (o : Objects) → isLaid o ≡ true → length (o .items) ≡ 64 → flags 64 (o .occupancy) ≡ map occupied (o .items)
-laid-flags o e long =
-    let many : length (map occupied (o .items)) ≡ 64 = length-map (o .items) occupied ∙ long in
-    ap (flags 64) (laid-word o e) ∙ ap (λ (k : ℕ). flags k (word (map occupied (o .items)))) (sym many) ∙ flags-word (map occupied (o .items))
+-- The occupancy words
+
+same-eq : (l k : List ℕ) → same l k ≡ true → l ≡ k
+unfolding same
+same-eq [] [] e = refl
+same-eq [] (n ∷ ns) e = absurd (false≢true e)
+same-eq (m ∷ ms) [] e = absurd (false≢true e)
+same-eq (m ∷ ms) (n ∷ ns) e = ap₂ _∷_ (eqb-true m n (and-left (eqb m n) (same ms ns) e)) (same-eq ms ns (and-right (eqb m n) (same ms ns) e))
+
+same-refl : (l : List ℕ) → same l l ≡ true
+unfolding same
+same-refl [] = refl
+same-refl (n ∷ ns) = and-both (eqb n n) (same ns ns) (eq-eqb n n refl) (same-refl ns)
+
+pub laid-words : (o : Objects) → isLaid o ≡ true → o .occupancy ≡ wordsAt (o .items)
+laid-words o e = same-eq (o .occupancy) (wordsAt (o .items)) e
+
+pub laid-count : (o : Objects) → isLaid o ≡ true → length (o .occupancy) ≡ wordCount
+laid-count o e = ap length (laid-words o e) ∙ length-words wordBits wordCount (map occupied (o .items))
+
+pub lay-laid : (ps : List Object) → isLaid (layPlaces ps) ≡ true
+lay-laid ps = same-refl (wordsAt ps)
+
+pub laid-out : (o : Objects) → isLaid o ≡ true → layPlaces (o .items) ≡ o
+laid-out o e = λ i. record { occupancy = sym (laid-words o e) i; items = o .items }
+
+-- the laws of the words, at four of 64 bits
+pub places-by-words : (ps : List Object) → length ps ≡ limits .places → ByWords wordBits wordCount (map occupied ps)
+places-by-words ps long = occupancy-by-words wordBits wordCount (map occupied ps) (omega arith) (length-map ps occupied ∙ long)
+
+-- the words' flags say which places are taken
+pub laid-flags : (o : Objects) → isLaid o ≡ true → length (o .items) ≡ limits .places → flagsOf wordBits (o .occupancy) ≡ map occupied (o .items)
+laid-flags o e long = ap (flagsOf wordBits) (laid-words o e) ∙ places-by-words (o .items) long .flags
+
+-- a place that is written has its bit as the object there
+pub set-words : (ps : List Object) → length ps ≡ limits .places → (at : ℕ) → at < length ps → (o : Object) → withFlag wordBits (occupied o) at (wordsAt ps) ≡ wordsAt (set ps at o)
+set-words ps long at h o =
+    places-by-words ps long .change (occupied o) at (omega (arith, length-map ps occupied)) ∙ ap (wordsOf wordBits wordCount) (sym (map-set occupied ps at o))
 
 pub used-length : (ps : List Object) → used (map occupied ps) ≡ length (keep occupied ps)
 unfolding used keep
@@ -136,12 +194,6 @@ pub lowest-place : (ps : List Object) → lowestFree (map occupied ps) ≡ Rattl
 unfolding lowestFree Rattle.rules.proofs.Laws.lowestFree
 lowest-place [] = refl
 lowest-place (o ∷ os) = ap (λ (n : ℕ). cond (occupied o) (suc n) 0) (lowest-place os)
-
-pub lay-laid : (ps : List Object) → isLaid (layPlaces ps) ≡ true
-lay-laid ps = eq-eqb (word (map occupied ps)) (word (map occupied ps)) refl
-
-pub laid-out : (o : Objects) → isLaid o ≡ true → layPlaces (o .items) ≡ o
-laid-out o e = λ i. record { occupancy = sym (laid-word o e) i; items = o .items }
 
 -- marking takes no place and frees none
 pub marked-places : (l : List ℕ) (ps : List Object) → map occupied (map (mark l) ps) ≡ map occupied ps

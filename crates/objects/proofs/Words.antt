@@ -1,17 +1,18 @@
--- Laws of the occupancy word, for a word of any number of bits.
+-- Laws of the occupancy words, for any number of words of any number of bits.
 -- Assumes nothing.
 use mathlib.Core.Path.{_≡_, refl, sym, ap, ap₂, _∙_}
 use mathlib.Core.Bool.{Bool, true, false, cond}
-use mathlib.Core.List.{List, [], _∷_}
+use mathlib.Core.List.{List, [], _∷_, _++_}
 use Prim.Native.Nat.{ℕ, zero, suc, _+_, _-_, _*_, _/_, _%_, _^_, _≤_, _<_}
-use native.Mathlib.Nat.{pow-suc, mod-eq-of-lt}
+use native.Mathlib.Nat.{pow-suc, mod-eq-of-lt, mod-lt, div-add-mod, div-lt-iff-lt-mul, zero-mul, suc-mul, mul-zero, mul-suc}
 use native.Mathlib.Omega.{arith}
 use lib.Dec.{eqb}
 use lib.Pow.{pow-pos, pow-lt}
 use lib.Bits.{bitAnd, bitOr, and-step, or-step, or-zero-r, and-mask}
 use lib.Count.{ones, ones-step, trailingZeros}
-use lib.ListN.{length, set}
-use Rattle.objects.specs.Occupancy.{word, flags, lowestFree, used}
+use lib.ListN.{length, take, drop, getD, set, length-drop, take-append-drop}
+use lib.Seq.{length-take-le, take-set-lt, take-set-le, drop-set-lt, drop-set-add}
+use Rattle.objects.specs.Occupancy.{word, flags, wordsOf, flagsOf, lowestFree, used, withFlag, OccupancyByWords}
 
 -- a flag as a digit
 abbrev digit : Bool → ℕ
@@ -145,3 +146,86 @@ unfolding used lowestFree
 free-place [] h = omega arith
 free-place (true ∷ bs) h = omega (arith, free-place bs (omega arith))
 free-place (false ∷ bs) h = omega arith
+
+-- ---- several words: the flags of one behind those of the words before it
+
+no-places : (k : ℕ) (bs : List Bool) → length bs ≡ zero * k → [] ≡ bs
+no-places k [] e = refl
+no-places k (b ∷ bs) e = absurd (omega (arith, e, zero-mul k))
+
+module _ (k n : ℕ) (bs : List Bool) (e : length bs ≡ suc n * k) where
+  -- the first word's places, and those of the others
+  pub first-long : length (take k bs) ≡ k
+  first-long = length-take-le k bs (omega (arith, e, suc-mul n k))
+
+  pub rest-long : length (drop k bs) ≡ n * k
+  rest-long = length-drop k bs ∙ omega (arith, e, suc-mul n k)
+
+  first-flags : flags k (word (take k bs)) ≡ take k bs
+  first-flags = ap (λ (j : ℕ). flags j (word (take k bs))) (sym first-long) ∙ flags-word (take k bs)
+
+pub flags-words : (k n : ℕ) (bs : List Bool) → length bs ≡ n * k → flagsOf k (wordsOf k n bs) ≡ bs
+unfolding flagsOf wordsOf
+flags-words k zero bs e = no-places k bs e
+flags-words k (suc n) bs e =
+    ap₂ (λ (x y : List Bool). x ++ y) (first-flags k n bs e) (flags-words k n (drop k bs) (rest-long k n bs e)) ∙ take-append-drop k bs
+
+pub length-words : (k n : ℕ) (bs : List Bool) → length (wordsOf k n bs) ≡ n
+unfolding wordsOf
+length-words k zero bs = refl
+length-words k (suc n) bs = ap suc (length-words k n (drop k bs))
+
+-- place j of word i
+flag-at : (k n : ℕ) (bs : List Bool) → length bs ≡ n * k → (b : Bool) (i j : ℕ) → i < n → j < k
+    → set (wordsOf k n bs) i (word (set (flags k (getD (wordsOf k n bs) i 0)) j b)) ≡ wordsOf k n (set bs (k * i + j) b)
+unfolding wordsOf
+flag-at k zero bs e b i j h l = absurd (omega arith)
+flag-at k (suc n) bs e b zero j h l =
+    let at : k * zero + j ≡ j = omega (arith, mul-zero k) in
+    rw (at, first-flags k n bs e, take-set-lt k bs j b l, drop-set-lt k bs j b l)
+flag-at k (suc n) bs e b (suc i) j h l =
+    let at : k * suc i + j ≡ k + (k * i + j) = omega (arith, mul-suc k i) in
+    rw (at, take-set-le k bs (k + (k * i + j)) b (omega arith), drop-set-add k bs (k * i + j) b)
+    (ap (λ (ws : List ℕ). word (take k bs) ∷ ws) (flag-at k n (drop k bs) (rest-long k n bs e) b i j (omega arith) l))
+
+pub occupancy-by-words : OccupancyByWords
+unfolding withFlag
+occupancy-by-words k n bs some e = record {
+  flags = flags-words k n bs e;
+  lowest = ap lowestFree (flags-words k n bs e);
+  count = ap used (flags-words k n bs e);
+  change = λ b at h.
+      flag-at k n bs e b (at / k) (at % k) (div-lt-iff-lt-mul some .1 (omega (arith, e))) (mod-lt at some)
+      ∙ ap (λ (p : ℕ). wordsOf k n (set bs p b)) (div-add-mod at k);
+}
+
+-- as the code goes from word to word
+used-append : (xs ys : List Bool) → used (xs ++ ys) ≡ used xs + used ys
+unfolding used
+used-append [] ys = omega arith
+used-append (x ∷ xs) ys = omega (arith, used-append xs ys)
+
+pub used-next : (k w : ℕ) (ws : List ℕ) → used (flagsOf k (w ∷ ws)) ≡ used (flags k w) + used (flagsOf k ws)
+unfolding flagsOf
+used-next k w ws = used-append (flags k w) (flagsOf k ws)
+
+lowest-here : (xs ys : List Bool) → lowestFree xs < length xs → lowestFree (xs ++ ys) ≡ lowestFree xs
+unfolding lowestFree
+lowest-here [] ys h = omega arith
+lowest-here (true ∷ xs) ys h = ap suc (lowest-here xs ys (omega arith))
+lowest-here (false ∷ xs) ys h = refl
+
+lowest-past : (xs ys : List Bool) → length xs ≤ lowestFree xs → lowestFree (xs ++ ys) ≡ length xs + lowestFree ys
+unfolding lowestFree
+lowest-past [] ys h = omega arith
+lowest-past (true ∷ xs) ys h = omega (arith, lowest-past xs ys (omega arith))
+lowest-past (false ∷ xs) ys h = omega arith
+
+module _ (k w : ℕ) (ws : List ℕ) where
+  pub lowest-found : lowestFree (flags k w) < k → lowestFree (flagsOf k (w ∷ ws)) ≡ lowestFree (flags k w)
+  unfolding flagsOf
+  lowest-found h = lowest-here (flags k w) (flagsOf k ws) (omega (arith, length-flags k w))
+
+  pub lowest-full : k ≤ lowestFree (flags k w) → lowestFree (flagsOf k (w ∷ ws)) ≡ k + lowestFree (flagsOf k ws)
+  unfolding flagsOf
+  lowest-full h = lowest-past (flags k w) (flagsOf k ws) (omega (arith, length-flags k w)) ∙ ap (λ (n : ℕ). n + lowestFree (flagsOf k ws)) (length-flags k w)

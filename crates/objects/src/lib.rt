@@ -1,25 +1,29 @@
-// The stored objects of a ledger: 64 places, and one word whose bits say which are taken.
+// The stored objects of a ledger in their places, and the words whose bits say which are taken.
 mod occupancy;
 
 ghost use mathlib.Core.Path.{_≡_};
 ghost use mathlib.Core.Bool.{true, not};
 ghost use mathlib.Core.List.{map};
-ghost use Prim.Native.Nat.{_+_, _<_};
+ghost use Prim.Native.Nat.{_≤_, _<_};
 ghost use lib.Dec.{leb};
-ghost use lib.ListN.{length, drop, replicate, set};
+ghost use lib.ListN.{length, replicate};
 ghost use Rattle.rules.specs.Limits.{limits};
 ghost use Rattle.rules.specs.Lists.{keep, any, all, has, distinct, maximum};
 ghost use Rattle.rules.specs.State.{free, occupied};
 ghost use Rattle.rules.specs.Step.{place, mark};
 ghost use Rattle.rules.specs.Sound.{isWriter, unused};
-ghost use Rattle.objects.specs.Objects.{layPlaces, isLaid, roleEpoch, placeSoundBy, storedIn, currencyIn, namedIn, ofCurrencyIn, numbersIn};
+ghost use Rattle.objects.specs.Objects.{layPlaces, isLaid, roleEpoch, placeSoundBy, numbersAt, namedAt, currenciesAt, among, currencyAmong, storedIn, currencyIn, ofCurrencyIn, numbersIn};
+// For the collection, which frees places one after another.
+pub use occupancy::clear_bit;
+use rules::BITS;
 use rules::LARGEST_CURRENCY;
 use rules::Object;
 use rules::PLACES;
 use rules::Role;
+use rules::WORDS;
 
 // A free place is all zero.
-fn no_object() -> Object
+pub fn no_object() -> Object
     ensures { λ r. ⌜ r ≡ free ⌝ }
 {
     Object {
@@ -32,7 +36,7 @@ fn no_object() -> Object
 }
 
 pub struct Objects {
-    pub occupancy: u64,
+    pub occupancy: [u64; WORDS],
     pub items: [Object; PLACES],
 }
 
@@ -40,106 +44,89 @@ impl Objects {
     pub fn none() -> Self
         ensures { λ r. ⌜ r ≡ layPlaces (replicate (limits .places) free) ⌝ }
     {
+        let occupancy = [0u64; WORDS];
         let items = [no_object(); PLACES];
-        Objects {
-            occupancy: 0,
-            items,
+        Objects { occupancy, items }
+    }
+
+    // The numbers in the places, 0 where one is free. Whoever looks many numbers up lends them, and copies no object.
+    pub fn numbers(self) -> [u64; PLACES]
+        ensures { λ r. ⌜ r ≡ numbersAt (self .items) ⌝ }
+    {
+        let mut numbers = [0u64; PLACES];
+        let mut i: usize = 0;
+        while i < PLACES {
+            let o = self.items[i];
+            numbers[i] = o.number;
+            i += 1;
         }
+        numbers
+    }
+
+    // The numbers of the objects that are marked as named, 0 in the other places.
+    pub fn named(self) -> [u64; PLACES]
+        ensures { λ r. ⌜ r ≡ namedAt (self .items) ⌝ }
+    {
+        let mut numbers = [0u64; PLACES];
+        let mut i: usize = 0;
+        while i < PLACES {
+            let o = self.items[i];
+            numbers[i] = if o.named { o.number } else { 0 };
+            i += 1;
+        }
+        numbers
+    }
+
+    // The currencies in the places.
+    pub fn currencies(self) -> [u16; PLACES]
+        ensures { λ r. ⌜ r ≡ currenciesAt (self .items) ⌝ }
+    {
+        let mut currencies = [0u16; PLACES];
+        let mut i: usize = 0;
+        while i < PLACES {
+            let o = self.items[i];
+            currencies[i] = o.currency;
+            i += 1;
+        }
+        currencies
     }
 
     // Whether an object of this number is stored.
     pub fn is_stored(self, number: u64) -> bool
         ensures { λ r. ⌜ r ≡ storedIn (self .items) number ⌝ }
     {
-        if number == 0 {
-            return false;
-        }
-        let mut i: usize = 0;
-        while i < PLACES {
-            let o = self.items[i];
-            if o.number == number {
-                return true;
-            }
-            i += 1;
-        }
-        false
-    }
-
-    // Whether an object of this number is stored and marked as named.
-    pub fn is_named(self, number: u64) -> bool
-        ensures { λ r. ⌜ r ≡ namedIn (self .items) number ⌝ }
-    {
-        if number == 0 {
-            return false;
-        }
-        let mut i: usize = 0;
-        while i < PLACES {
-            let o = self.items[i];
-            if o.number == number {
-                if o.named {
-                    return true;
-                }
-            }
-            i += 1;
-        }
-        false
+        let numbers = self.numbers();
+        is_among(&numbers, number)
     }
 
     // The currency of the stored object of this number, 0 where there is none.
     pub fn currency_of(self, number: u64) -> u16
         ensures { λ r. ⌜ r ≡ currencyIn (self .items) number ⌝ }
     {
-        if number == 0 {
-            return 0;
-        }
-        let mut i: usize = 0;
-        while i < PLACES {
-            let o = self.items[i];
-            if o.number == number {
-                return o.currency;
-            }
-            i += 1;
-        }
-        0
+        let numbers = self.numbers();
+        let currencies = self.currencies();
+        currency_among(&numbers, &currencies, number)
     }
 
     // Whether every number of the list is stored.
     pub fn all_stored(self, list: &[u64]) -> bool
         ensures { λ r. ⌜ not r ≡ any (λ n. not (storedIn (self .items) n)) (now (list .entry)) ⌝ }
     {
-        let mut i: usize = 0;
-        while i < list.len() {
-            if !self.is_stored(list[i]) {
-                return false;
-            }
-            i += 1;
-        }
-        true
-    }
-
-    // Whether every number of the list is stored and marked as named.
-    pub fn all_named(self, list: &[u64]) -> bool
-        ensures { λ r. ⌜ r ≡ all (namedIn (self .items)) (now (list .entry)) ⌝ }
-    {
-        let mut i: usize = 0;
-        while i < list.len() {
-            if !self.is_named(list[i]) {
-                return false;
-            }
-            i += 1;
-        }
-        true
+        let numbers = self.numbers();
+        all_among(&numbers, list)
     }
 
     // The highest number of the list that has this currency, 0 where there is none.
     pub fn highest(self, currency: u16, list: &[u64]) -> u64
         ensures { λ r. ⌜ r ≡ maximum (ofCurrencyIn (self .items) currency (now (list .entry))) ⌝ }
     {
+        let numbers = self.numbers();
+        let currencies = self.currencies();
         let mut best: u64 = 0;
         let mut i: usize = 0;
         while i < list.len() {
             let n = list[i];
-            if self.currency_of(n) == currency {
+            if currency_among(&numbers, &currencies, n) == currency {
                 if best < n {
                     best = n;
                 }
@@ -149,19 +136,21 @@ impl Objects {
         best
     }
 
-    // Whether the occupancy word is that of the places, of any value.
+    // Whether the occupancy words are those of the places, of any value.
     pub fn is_laid(self) -> bool
         ensures { λ r. ⌜ r ≡ isLaid self ⌝ }
     {
-        let mut word: u64 = 0;
-        let mut i = PLACES;
-        while 0 < i {
-            i -= 1;
-            let o = self.items[i];
-            let bit: u64 = if o.number == 0 { 0 } else { 1 };
-            word = word * 2 + bit;
+        let numbers = self.numbers();
+        let mut k: usize = 0;
+        while k < WORDS {
+            let from = k * BITS;
+            let to = from + BITS;
+            if self.occupancy[k] != occupancy::word_of(&numbers[from..to]) {
+                return false;
+            }
+            k += 1;
         }
-        self.occupancy == word
+        true
     }
 
     // Whether each place is free and all zero, or holds an object that is sound beside these epochs.
@@ -183,34 +172,16 @@ impl Objects {
     pub fn is_distinct(self) -> bool
         ensures { λ r. ⌜ r ≡ distinct (numbersIn (self .items)) ⌝ }
     {
+        let numbers = self.numbers();
         let mut i: usize = 0;
         while i < PLACES {
-            let o = self.items[i];
-            if self.stands_behind(o.number, i) {
+            let number = numbers[i];
+            i += 1;
+            if is_among(&numbers[i..], number) {
                 return false;
             }
-            i += 1;
         }
         true
-    }
-
-    // Whether an object of this number is stored behind place i.
-    fn stands_behind(self, number: u64, i: usize) -> bool
-        requires { ⌜ i < limits .places ⌝ }
-        ensures { λ r. ⌜ r ≡ storedIn (drop (i + 1) (self .items)) number ⌝ }
-    {
-        if number == 0 {
-            return false;
-        }
-        let mut j = i + 1;
-        while j < PLACES {
-            let o = self.items[j];
-            if o.number == number {
-                return true;
-            }
-            j += 1;
-        }
-        false
     }
 
     // Whether every place is taken: count of ones tells a full store.
@@ -218,29 +189,20 @@ impl Objects {
         requires { ⌜ isLaid self ≡ true ⌝ }
         ensures { λ r. ⌜ r ≡ leb (limits .places) (length (keep occupied (self .items))) ⌝ }
     {
-        occupancy::count_taken(self.occupancy) == 64
+        let words = self.occupancy;
+        occupancy::count_taken(&words) == PLACES
     }
 
-    // The object goes to the lowest free place: trailing zeros of the inverted word.
+    // The object goes to the lowest free place.
     pub fn put(mut self, object: Object) -> Self
         requires { ⌜ (isLaid self ≡ true) × (occupied object ≡ true) × (length (keep occupied (self .items)) < limits .places) ⌝ }
         ensures { λ r. ⌜ r ≡ layPlaces (place object (self .items)) ⌝ }
     {
-        let word = self.occupancy;
-        let at = occupancy::lowest_free(word);
+        let mut words = self.occupancy;
+        let at = occupancy::lowest_free(&words);
+        occupancy::set_bit(&mut words, at);
         self.items[at] = object;
-        self.occupancy = occupancy::with_bit(word, at);
-        self
-    }
-
-    // The place is free again: its bit is cleared.
-    pub fn free(mut self, at: usize) -> Self
-        requires { ⌜ (isLaid self ≡ true) × (at < limits .places) ⌝ }
-        ensures { λ r. ⌜ r ≡ layPlaces (set (self .items) at free) ⌝ }
-    {
-        let word = self.occupancy;
-        self.items[at] = no_object();
-        self.occupancy = occupancy::without_bit(word, at);
+        self.occupancy = words;
         self
     }
 
@@ -274,6 +236,48 @@ pub fn contains(list: &[u64], number: u64) -> bool
         i += 1;
     }
     false
+}
+
+// Whether a place has this number, which is not that of a free one.
+pub fn is_among(numbers: &[u64], number: u64) -> bool
+    ensures { λ r. ⌜ r ≡ among (now (numbers .entry)) number ⌝ }
+{
+    if number == 0 {
+        return false;
+    }
+    contains(numbers, number)
+}
+
+// Whether each number of the list is among these.
+pub fn all_among(numbers: &[u64], list: &[u64]) -> bool
+    ensures { λ r. ⌜ r ≡ all (among (now (numbers .entry))) (now (list .entry)) ⌝ }
+{
+    let mut i: usize = 0;
+    while i < list.len() {
+        if !is_among(numbers, list[i]) {
+            return false;
+        }
+        i += 1;
+    }
+    true
+}
+
+// The currency beside the first of these numbers that is this one; 0 where none is.
+pub fn currency_among(numbers: &[u64], currencies: &[u16], number: u64) -> u16
+    requires { ⌜ length (now numbers) ≤ length (now currencies) ⌝ }
+    ensures { λ r. ⌜ r ≡ currencyAmong (now (numbers .entry)) (now (currencies .entry)) number ⌝ }
+{
+    if number == 0 {
+        return 0;
+    }
+    let mut i: usize = 0;
+    while i < numbers.len() {
+        if numbers[i] == number {
+            return currencies[i];
+        }
+        i += 1;
+    }
+    0
 }
 
 // The object, marked as named where the list names it.

@@ -1,89 +1,27 @@
 -- `Objects::currency_of` meets its contract.
 -- Assumes nothing.
-use mathlib.Core.Path.{_≡_, sym, ap}
+use mathlib.Core.Path.{ap₂, _∙_}
 use mathlib.Core.List.{List}
-use Prim.Native.Nat.{ℕ, _-_, _≤_}
-use native.Mathlib.Omega.{arith}
-use borrow.Author.Tests.{eq-eqb, ne-eqb}
-use lib.ListN.{length, getD}
-use lib.Seq.{slice, take-all}
-use Rattle.rules.specs.declared.Object.{Object}
-use Rattle.rules.specs.Lists.{keep, lookup}
-use Rattle.rules.specs.State.{free}
-use Rattle.arrays.proofs.Scan.{scan-next, scan-stop, scan-end}
-use Rattle.objects.specs.Objects.{currencyIn}
-use Rattle.objects.proofs.Places.{items-long, is-used, find-hit, find-miss, find-zero}
+use Prim.Native.Nat.{ℕ}
+use borrow.Author.Needs.{needs}
+use Rattle.objects.specs.Objects.{currencyAmong}
+use Rattle.objects.proofs.Places.{currency-among, pair-long}
 use Rattle.objects.proofs.Objects.currency_of.Statement.{statement}
 use Rattle.objects.proofs.Objects.currency_of.Tie as tie
 
-abbrev asked : ℕ → List Object → ℕ
-asked number ps = currencyIn ps number
+currency-among-requires : tie.Need-currency-among-requires
+currency-among-requires c κs =
+    let n = c .before .before in
+    pair-long (n .before .before .args .self .items) (n .before .numbers .ensures) (n .currencies .ensures)
 
-abbrev Inv-loop : tie.InvT-loop
-Inv-loop number self i₀ i =
-    (i ≤ 64) × (length (self .items) ≡ 64) × (number ≡ 0 → ⊥) × (asked number (slice i 64 (self .items)) ≡ asked number (self .items))
-
-abbrev μ-loop : tie.MeasureT-loop
-μ-loop number self i₀ i = 64 - i
-
-returns : tie.Need-returns Inv-loop μ-loop
+returns : tie.Need-returns
 returns c =
-    let s = c .before .args in
-    rw (c .if1 .taken) (sym (find-zero (λ (o : Object). o .currency) 0 (s .t1 .items)))
-
-loop-holds : tie.Need-loop-holds Inv-loop μ-loop
-loop-holds c =
-    let s = c .before .args in
-    let long = items-long (s .t1) _ (c .before .good .0) in
-    (omega arith, long, c .if1 .left, ap (asked (s .number)) (take-all 64 (s .t1 .items) (omega arith)))
-
-mul-o : tie.Need-mul-o Inv-loop μ-loop
-mul-o c = omega arith
-
-element-copy-out-o : tie.Need-element-copy-out-o Inv-loop μ-loop
-element-copy-out-o c = omega arith
-
-returns-2 : tie.Need-returns-2 Inv-loop μ-loop
-returns-2 c =
-    let a = c .before .before .before .before in
-    let s = a .before .before .args in
-    let h = a .loop .inv in
-    let o = getD (s .t1 .items) (a .loop .i) free in
-    scan-stop (s .t1 .items) 64 (asked (s .number)) (h .3) free (omega arith) (omega arith) _ (find-hit (λ (o : Object). o .currency) 0 (s .number) o _ (is-used o (s .number) (h .2) (c .if2 .taken)) (eq-eqb _ _ (sym (c .if2 .taken))))
-
-add-i : tie.Need-add-i Inv-loop μ-loop
-add-i c = omega arith
-
-loop-less : tie.Need-loop-less Inv-loop μ-loop
-loop-less c = omega arith
-
-loop-again : tie.Need-loop-again Inv-loop μ-loop
-loop-again c =
-    let a = c .before .before .before .before in
-    let s = a .before .before .args in
-    let h = a .loop .inv in
-    let ask = asked (s .number) in
-    (omega arith, h .1, h .2, scan-next (s .t1 .items) 64 ask (h .3) free (omega arith) (omega arith) ask (find-miss (λ (o : Object). o .currency) 0 (s .number) _ _ (ne-eqb _ _ (λ e. c .if2 .left (sym e)))))
-
-returns-3 : tie.Need-returns-3 Inv-loop μ-loop
-unfolding keep lookup
-returns-3 c =
-    let s = c .before .before .before .args in
-    let e : c .before .loop .i ≡ 64 = omega arith in
-    scan-end (s .t1 .items) 64 (asked (s .number)) (rw e at (c .before .loop .inv .3))
+    let n = c .before .before .before in
+    let s = n .before .before .args in
+    c .currency-among .ensures
+    ∙ ap₂ (λ (ns cs : List ℕ). currencyAmong ns cs (s .number)) (n .before .numbers .ensures) (n .currencies .ensures) ∙ currency-among (s .self .items) (s .number)
 
 pub currency-of-spec : {M : Type 1} → statement M
 currency-of-spec =
     tie.close
-    (tie.spec
-    Inv-loop
-    μ-loop
-    returns
-    loop-holds
-    mul-o
-    element-copy-out-o
-    returns-2
-    add-i
-    loop-less
-    loop-again
-    returns-3)
+    (tie.spec (λ c κs. tt) (λ c κs. tt) (λ c. search needs) (λ c. search needs) currency-among-requires returns)

@@ -1,83 +1,97 @@
--- `Objects::is_distinct` meets its contract: no object passed stands behind itself again.
+-- `Objects::is_distinct` meets its contract: no number passed stands behind itself again.
 -- Assumes nothing.
 use mathlib.Core.Path.{_≡_, sym, ap, _∙_}
 use mathlib.Core.Bool.{Bool, false}
 use mathlib.Core.List.{List}
 use Prim.Native.Nat.{ℕ, _+_, _-_, _≤_}
 use native.Mathlib.Omega.{arith}
-use borrow.Author.Needs.{needs}
-use lib.ListN.{length, drop, getD}
+use lib.ListN.{length, take, drop, getD, length-map, length-drop}
 use lib.Seq.{slice, take-all}
 use Rattle.rules.specs.declared.Object.{Object}
+use Rattle.rules.specs.Limits.{limits}
 use Rattle.rules.specs.Lists.{keep, distinct}
-use Rattle.rules.specs.State.{free}
+use Rattle.rules.specs.Table.{nonzero}
 use Rattle.arrays.proofs.Scan.{scan-next, scan-stop, scan-end}
-use Rattle.objects.specs.Objects.{storedIn, numbersIn}
-use Rattle.objects.proofs.Places.{items-long, distinct-hit, distinct-miss}
+use Rattle.objects.specs.Objects.{numbersAt, among, numbersIn}
+use Rattle.objects.proofs.Places.{items-long, numbers-kept, distinct-hit, distinct-miss}
 use Rattle.objects.proofs.Objects.is_distinct.Statement.{statement}
 use Rattle.objects.proofs.Objects.is_distinct.Tie as tie
 
-abbrev asked : List Object → Bool
-asked ps = distinct (numbersIn ps)
+-- what is asked of the numbers
+abbrev asked : List ℕ → Bool
+asked ns = distinct (keep nonzero ns)
+
+-- what stands behind the first i numbers, as it is lent and as it is left
+rest : (ns : List ℕ) (i : ℕ) → length ns ≡ limits .places → take (limits .places - i) (drop i ns) ≡ slice i (limits .places) ns
+rest ns i long = take-all (limits .places - i) (drop i ns) (omega (arith, length-drop i ns)) ∙ ap (drop i) (sym (take-all (limits .places) ns (omega arith)))
+
+-- what the places say of the numbers
+said : (ns : List ℕ) (ps : List Object) → ns ≡ numbersAt ps → asked ns ≡ distinct (numbersIn ps)
+said ns ps e = ap asked e ∙ ap distinct (sym (numbers-kept ps))
 
 abbrev Inv-loop : tie.InvT-loop
-Inv-loop self i₀ i = (i ≤ 64) × (length (self .items) ≡ 64) × (asked (slice i 64 (self .items)) ≡ asked (self .items))
+Inv-loop numbers i₀ i = (i ≤ limits .places) × (length numbers ≡ limits .places) × (asked (slice i (limits .places) numbers) ≡ asked numbers)
 
 abbrev μ-loop : tie.MeasureT-loop
-μ-loop self i₀ i = 64 - i
+μ-loop numbers i₀ i = limits .places - i
 
 loop-holds : tie.Need-loop-holds Inv-loop μ-loop
 loop-holds c =
-    let s = c .args in
-    let long = items-long (s .t1) _ (c .good .0) in
-    (omega arith, long, ap asked (take-all 64 (s .t1 .items) (omega arith)))
+    let s = c .before .args .self in
+    let long = ap length (c .numbers .ensures) ∙ length-map (s .items) (λ (o : Object). o .number) ∙ items-long s _ (c .before .good .0) in
+    (omega arith, long, ap asked (take-all (limits .places) (c .numbers .result) (omega arith)))
 
-mul-o : tie.Need-mul-o Inv-loop μ-loop
-mul-o c = omega arith
+mul-number : tie.Need-mul-number Inv-loop μ-loop
+mul-number c = omega arith
 
-element-copy-out-o : tie.Need-element-copy-out-o Inv-loop μ-loop
-element-copy-out-o c = omega arith
-
-stands-behind-requires : tie.Need-stands-behind-requires Inv-loop μ-loop
-stands-behind-requires c κs = search needs
-
--- what stands behind place i is the rest of all
-behind : (ps : List Object) (i n : ℕ) → length ps ≡ 64 → storedIn (drop (i + 1) ps) n ≡ storedIn (slice (i + 1) 64 ps) n
-behind ps i n long = ap (λ (l : List Object). storedIn (drop (i + 1) l) n) (sym (take-all 64 ps (omega arith)))
-
-returns : tie.Need-returns Inv-loop μ-loop
-returns c =
-    let a = c .before .before .before .before in
-    let s = a .before .args in
-    let h = a .loop .inv in
-    let o = getD (s .t1 .items) (a .loop .i) free in
-    scan-stop (s .t1 .items) 64 asked (h .2) free (omega arith) (omega arith) false
-    (distinct-miss o _ (sym (behind (s .t1 .items) (a .loop .i) (o .number) (h .1)) ∙ sym (c .before .stands-behind .ensures) ∙ c .if1 .taken))
+array-read-number : tie.Need-array-read-number Inv-loop μ-loop
+array-read-number c = omega arith
 
 add-i : tie.Need-add-i Inv-loop μ-loop
 add-i c = omega arith
+
+mul-is-among : tie.Need-mul-is-among Inv-loop μ-loop
+mul-is-among c = omega arith
+
+sub-is-among : tie.Need-sub-is-among Inv-loop μ-loop
+sub-is-among c = omega arith
+
+part-is-among-start : tie.Need-part-is-among-start Inv-loop μ-loop
+part-is-among-start c = omega arith
+
+part-is-among-end : tie.Need-part-is-among-end Inv-loop μ-loop
+part-is-among-end c = omega arith
+
+is-among-requires : tie.Need-is-among-requires Inv-loop μ-loop
+is-among-requires c κs = tt
+
+returns : tie.Need-returns Inv-loop μ-loop
+returns c =
+    let a = c .before .before .before .before .before in
+    let h = a .loop .inv in
+    let ns = a .before .numbers .result in
+    let n = getD ns (a .loop .i) 0 in
+    let again = ap (λ (l : List ℕ). among l n) (sym (rest ns (a .loop .i + 1) (h .1))) ∙ sym (c .before .is-among .ensures) ∙ c .if1 .taken in
+    scan-stop ns (limits .places) asked (h .2) 0 (omega arith) (omega arith) false (distinct-miss n _ again) ∙ said ns (a .before .before .args .self .items) (a .before .numbers .ensures)
 
 loop-less : tie.Need-loop-less Inv-loop μ-loop
 loop-less c = omega arith
 
 loop-again : tie.Need-loop-again Inv-loop μ-loop
 loop-again c =
-    let a = c .before .before .before .before in
-    let s = a .before .args in
+    let a = c .before .before .before .before .before in
     let h = a .loop .inv in
-    let o = getD (s .t1 .items) (a .loop .i) free in (
-      omega arith,
-      h .1,
-      scan-next (s .t1 .items) 64 asked (h .2) free (omega arith) (omega arith) asked
-          (distinct-hit o _ (sym (behind (s .t1 .items) (a .loop .i) (o .number) (h .1)) ∙ sym (c .before .stands-behind .ensures) ∙ c .if1 .left)),
-    )
+    let ns = a .before .numbers .result in
+    let n = getD ns (a .loop .i) 0 in
+    let once = ap (λ (l : List ℕ). among l n) (sym (rest ns (a .loop .i + 1) (h .1))) ∙ sym (c .before .is-among .ensures) ∙ c .if1 .left in
+    (omega arith, h .1, scan-next ns (limits .places) asked (h .2) 0 (omega arith) (omega arith) asked (distinct-hit n _ once))
 
 returns-2 : tie.Need-returns-2 Inv-loop μ-loop
 unfolding keep distinct
 returns-2 c =
-    let s = c .before .before .args in
-    let e : c .before .loop .i ≡ 64 = omega arith in
-    scan-end (s .t1 .items) 64 asked (rw e at (c .before .loop .inv .2))
+    let n = c .before .before in
+    let e : c .before .loop .i ≡ limits .places = omega arith in
+    scan-end (n .numbers .result) (limits .places) asked (rw e at (c .before .loop .inv .2)) ∙ said (n .numbers .result) (n .before .args .self .items) (n .numbers .ensures)
 
 pub is-distinct-spec : {M : Type 1} → statement M
 is-distinct-spec =
@@ -85,12 +99,17 @@ is-distinct-spec =
     (tie.spec
     Inv-loop
     μ-loop
+    (λ c κs. tt)
     loop-holds
-    mul-o
-    element-copy-out-o
-    stands-behind-requires
-    returns
+    mul-number
+    array-read-number
     add-i
+    mul-is-among
+    sub-is-among
+    part-is-among-start
+    part-is-among-end
+    is-among-requires
+    returns
     loop-less
     loop-again
     returns-2)

@@ -1,28 +1,25 @@
 -- `Objects::mark` meets its contract: the places passed are filled with the objects, marked or as they were.
 -- Assumes nothing.
 use mathlib.Core.Path.{_≡_, sym, ap, _∙_, subst}
-use mathlib.Core.List.{List, map}
 use Prim.Native.Nat.{ℕ, _-_, _≤_}
 use native.Mathlib.Omega.{arith}
 use borrow.Author.Needs.{needs}
-use lib.ListN.{length, length-map}
-use lib.Seq.{take-all}
-use Rattle.rules.specs.declared.Object.{Object}
+use lib.ListN.{length}
+use Rattle.rules.specs.Limits.{limits, wordCount, wordBits}
 use Rattle.rules.specs.State.{free}
 use Rattle.rules.specs.Step.{mark}
-use Rattle.arrays.specs.Arrays.{pad}
-use Rattle.arrays.proofs.Lists.{Filled, filled-none, filled-next, pad-full}
+use Rattle.arrays.proofs.Lists.{Filled, filled-none, filled-next, filled-all}
 use Rattle.objects.specs.declared.Objects.{Objects}
-use Rattle.objects.specs.Occupancy.{word}
-use Rattle.objects.proofs.Places.{items-long, laid-word, marked-places}
+use Rattle.objects.specs.Occupancy.{wordsOf}
+use Rattle.objects.proofs.Places.{items-long, laid-words, marked-places}
 use Rattle.objects.proofs.Objects.mark.Statement.{statement}
 use Rattle.objects.proofs.Objects.mark.Tie as tie
 
 abbrev Inv-loop : tie.InvT-loop
-Inv-loop list self items₀ i₀ items i = (i ≤ 64) × (length (self .items) ≡ 64) × Filled 64 free (mark list) (self .items) i items
+Inv-loop list self items₀ i₀ items i = (i ≤ limits .places) × (length (self .items) ≡ limits .places) × Filled (limits .places) free (mark list) (self .items) i items
 
 abbrev μ-loop : tie.MeasureT-loop
-μ-loop list self items₀ i₀ items i = 64 - i
+μ-loop list self items₀ i₀ items i = limits .places - i
 
 none-requires : tie.Need-none-requires Inv-loop μ-loop
 none-requires c κs = search needs
@@ -30,7 +27,7 @@ none-requires c κs = search needs
 loop-holds : tie.Need-loop-holds Inv-loop μ-loop
 loop-holds c =
     let s = c .before .before .before .args in
-    (omega arith, items-long (s .t1) _ (c .before .before .before .good .0), rw (ap (λ (o : Objects). o .items) (c .before .none .ensures)) (filled-none 64 free (mark (s .list .now)) (s .t1 .items)))
+    (omega arith, items-long (s .t1) _ (c .before .before .before .good .0), rw (ap (λ (o : Objects). o .items) (c .before .none .ensures)) (filled-none (limits .places) free (mark (s .list .now)) (s .t1 .items)))
 
 mul-o : tie.Need-mul-o Inv-loop μ-loop
 mul-o c = omega arith
@@ -63,11 +60,11 @@ returns c =
     let h = c .before .loop .inv in
     let s = c .before .before .before .before .before .args in
     let f = mark (s .list .now) in
-    let all : c .before .loop .i ≡ 64 = omega arith in
-    let done = subst (λ (k : ℕ). Filled 64 free f (s .t1 .items) k (c .before .loop .items)) all (h .2) in
-    let same : c .before .loop .items ≡ map f (s .t1 .items) =
-    done ∙ ap (λ (l : List Object). pad 64 free (map f l)) (take-all 64 (s .t1 .items) (omega arith)) ∙ pad-full 64 free (map f (s .t1 .items)) (length-map (s .t1 .items) f ∙ h .1) in
-    λ j. record { occupancy = (laid-word (s .t1) (c .before .before .before .before .before .pre) ∙ ap word (sym (marked-places (s .list .now) (s .t1 .items)))) j; items = same j }
+    let all : c .before .loop .i ≡ limits .places = omega arith in
+    let done = subst (λ (k : ℕ). Filled (limits .places) free f (s .t1 .items) k (c .before .loop .items)) all (h .2) in
+    let same = filled-all (limits .places) free f (s .t1 .items) (h .1) done in
+    let words = laid-words (s .t1) (c .before .before .before .before .before .pre) ∙ ap (wordsOf wordBits wordCount) (sym (marked-places (s .list .now) (s .t1 .items))) in
+    λ j. record { occupancy = words j; items = same j }
 
 pub mark-spec : {M : Type 1} → statement M
 mark-spec =
