@@ -4,13 +4,13 @@ use mathlib.Core.Path.{_≡_, refl, sym, ap, ap₂, _∙_}
 use mathlib.Core.Logic.{⊎-elim}
 use mathlib.Core.Bool.{Bool, true, _&&_}
 use mathlib.Core.List.{List, [], _∷_, _++_, map, List·Memᴰ·head, List·Memᴰ·tail, List·Memᴰ·not-nil, List·Memᴰ·cases-cons}
-use Prim.Native.Nat.{ℕ, zero, suc, _-_, _≤_, _<_}
+use Prim.Native.Nat.{ℕ, zero, suc, _+_, _-_, _≤_, _<_}
 use native.Mathlib.Nat.{not-suc-le-zero, le-of-suc-le-suc}
 use native.Mathlib.Omega.{arith}
 use borrow.Author.Tests.{leb-true, le-leb, eqb-true, eq-eqb}
 use lib.Dec.{leb, eqb}
-use lib.Seq.{length-take-le, take-suc, take-take, getD-take}
-use lib.ListN.{length, take, drop, getD, replicate, length-map, length-take}
+use lib.Seq.{length-take-le, take-all, take-suc, take-take, getD-take}
+use lib.ListN.{length, take, drop, getD, set, replicate, length-map, length-take}
 use mir.Val.{Val}
 use denote.Laws.{Is}
 use denote.Shadow.{shadow}
@@ -22,7 +22,7 @@ use Rattle.rules.specs.Typed.{isPadded}
 use Rattle.rules.proofs.Lists.{and-left, and-right, and-both, conj-true, true-conj}
 use Rattle.rules.proofs.Typed.{padded-room}
 use Rattle.arrays.specs.Arrays.{pad}
-use Rattle.arrays.proofs.Lists.{pad-laid, laid-pad, take-pad, length-pad, pad-none, map-append, same-at}
+use Rattle.arrays.proofs.Lists.{pad-laid, laid-pad, take-pad, length-pad, pad-none, pad-full, map-append, same-at, Filled, filled-none, filled-next}
 use Rattle.manifests.specs.declared.KeptManifest.{KeptManifest}
 use Rattle.manifests.specs.declared.Manifests.{Manifests}
 use Rattle.manifests.specs.Manifests.{layManifest, manifestOf, noManifest, pastEnd, manifestsOf, layManifests, currentOf, olderOf, isNoManifest, isListLaid, isLaid}
@@ -57,7 +57,7 @@ module _ {A : Type 0} (p : A → Bool) where
       and-both (p x && q x) _ (and-both (p x) (q x) (and-left (p x) (all p xs) e) (and-left (q x) (all q xs) f))
       (all-also q xs (and-right (p x) (all p xs) e) (and-right (q x) (all q xs) f))
 
--- What the type says: nine places, each with room for 16 names
+-- What the type says: how many places there are, and each place's room for names
 
 -- a place's array of names is whole
 abbrev pub hasRoom : KeptManifest → Bool
@@ -73,7 +73,7 @@ field-room (m ∷ ms) (u ∷ us) is =
 
 -- the lengths of a value's arrays
 pub record Long (ms : Manifests) : Type 0 where
-  pub items : length (ms .items) ≡ 9
+  pub items : length (ms .items) ≡ manifestLimit limits
   pub names : all hasRoom (ms .items) ≡ true
 
 pub long : (ms : Manifests) (vs : List Val) → Is manifests.the-row ms vs → Long ms
@@ -82,10 +82,10 @@ long ms vs is = record {
   names = field-room (ms .items) _ (is .1 .1 .1 .0 .1 .1);
 }
 
-pub items-long : (ms : Manifests) (vs : List Val) → Is manifests.the-row ms vs → length (ms .items) ≡ 9
+pub items-long : (ms : Manifests) (vs : List Val) → Is manifests.the-row ms vs → length (ms .items) ≡ manifestLimit limits
 items-long ms vs is = long ms vs is .items
 
-pub names-long : {ms : Manifests} → Long ms → (i : ℕ) → i < 9 → length (getD (ms .items) i pastEnd .names) ≡ 16
+pub names-long : {ms : Manifests} → Long ms → (i : ℕ) → i < manifestLimit limits → length (getD (ms .items) i pastEnd .names) ≡ limits .names
 names-long {ms} l i h = eqb-true _ _ (all-at hasRoom (ms .items) (l .names) i pastEnd (omega (arith, l .items)))
 
 -- what a place says is no longer than its room
@@ -94,18 +94,36 @@ unfolding all
 names-short [] r m k = absurd (List·Memᴰ·not-nil k)
 names-short (x ∷ xs) r m k =
     ⊎-elim
-    (λ e. omega (arith, ap (λ (y : Manifest). length (y .names)) e, length-take (x .count) (x .names), eqb-true (length (x .names)) 16 (and-left (hasRoom x) _ r)))
+    (λ e. omega (arith, ap (λ (y : Manifest). length (y .names)) e, length-take (x .count) (x .names), eqb-true (length (x .names)) (limits .names) (and-left (hasRoom x) _ r)))
     (names-short xs (and-right (hasRoom x) _ r) m) (List·Memᴰ·cases-cons k)
 
 pub kept-short : {ms : Manifests} → Long ms → (m : Manifest) → m ∈ manifestsOf ms → length (m .names) ≤ limits .names
 kept-short {ms} l = names-short (take (ms .count) (ms .items)) (all-take hasRoom (ms .count) (ms .items) (l .names))
+
+-- A loop that copies a field of each place into an array that has z at first
+
+module _ {B : Type 0} (z : B) (f : KeptManifest → B) where
+  abbrev pub Copied : Manifests → ℕ → List B → Type 0
+  Copied ms i a = (i ≤ manifestLimit limits) × (length (ms .items) ≡ manifestLimit limits) × Filled (manifestLimit limits) z f (ms .items) i a
+
+  pub copied-none : (ms : Manifests) → length (ms .items) ≡ manifestLimit limits → Copied ms 0 (replicate (manifestLimit limits) z)
+  copied-none ms l = (omega arith, l, filled-none (manifestLimit limits) z f (ms .items))
+
+  module _ (ms : Manifests) (i : ℕ) (a : List B) (done : Copied ms i a) where
+    pub copied-next : i < manifestLimit limits → Copied ms (i + 1) (set a i (f (getD (ms .items) i pastEnd)))
+    copied-next h = (omega arith, done .1, filled-next (manifestLimit limits) z f (ms .items) (done .2) pastEnd (omega arith) h)
+
+    pub copied-all : manifestLimit limits ≤ i → a ≡ map f (ms .items)
+    copied-all h =
+        done .2 ∙ ap (λ (l : List KeptManifest). pad (manifestLimit limits) z (map f l)) (take-all i (ms .items) (omega arith))
+        ∙ pad-full (manifestLimit limits) z (map f (ms .items)) (length-map (ms .items) f ∙ done .1)
 
 -- A place that is laid out is the layout of its manifest
 
 pub formed : (m : KeptManifest) → hasRoom m ≡ true → isListLaid m ≡ true → layManifest (manifestOf m) ≡ m
 unfolding isPadded
 formed m r e =
-    let sixteen : length (m .names) ≡ 16 = eqb-true _ _ r in
+    let whole : length (m .names) ≡ limits .names = eqb-true _ _ r in
     let fits = padded-room (m .count) (m .names) e in
     let same = pad-laid 0 (eqb 0) (λ x t. sym (eqb-true 0 x t)) (m .count) (m .names) fits (and-right (leb (m .count) (length (m .names))) _ e) in
     λ i. record {
@@ -113,7 +131,7 @@ formed m r e =
       writer = m .writer;
       compactor = m .compactor;
       count = length-take-le (m .count) (m .names) fits i;
-      names = (ap (λ (k : ℕ). pad k 0 (take (m .count) (m .names))) (sym sixteen) ∙ same) i;
+      names = (ap (λ (k : ℕ). pad k 0 (take (m .count) (m .names))) (sym whole) ∙ same) i;
     }
 
 lists-formed : (l : List KeptManifest) → all hasRoom l ≡ true → all isListLaid l ≡ true → map layManifest (map manifestOf l) ≡ l
@@ -125,7 +143,7 @@ lists-formed (m ∷ ms) r e =
 
 -- a place that is all zero is the layout of manifest 0 with an empty list
 pub first-laid : layManifest firstManifest ≡ noManifest
-first-laid = λ i. record { number = 0; writer = 0; compactor = 0; count = 0; names = pad-none 16 0 i }
+first-laid = λ i. record { number = 0; writer = 0; compactor = 0; count = 0; names = pad-none (limits .names) 0 i }
 
 no-manifest : (m : KeptManifest) → (isNoManifest m && hasRoom m) ≡ true → m ≡ noManifest
 unfolding isNoManifest
@@ -155,7 +173,7 @@ module _ (ms : Manifests) (l : Long ms) (e : isLaid ms ≡ true) where
   room : ms .count ≤ length (ms .items)
   room = omega (arith, few ms e, l .items)
 
-  padded : all isListLaid (take (ms .count) (ms .items)) ≡ true
+  pub padded : all isListLaid (take (ms .count) (ms .items)) ≡ true
   unfolding isLaid
   padded = conj-true _ e .1 .1 .0
 
@@ -190,7 +208,7 @@ module _ (ms : Manifests) (l : Long ms) (e : isLaid ms ≡ true) where
       let same = pad-laid noManifest (λ m. isNoManifest m && hasRoom m) no-manifest (ms .count) (ms .items) room rest in
       λ i. record {
         count = (length-map (take (ms .count) (ms .items)) manifestOf ∙ length-take-le (ms .count) (ms .items) room) i;
-        items = (ap (pad 9 noManifest) (kept-same (ms .count) (omega arith)) ∙ ap (λ (k : ℕ). pad k noManifest (take (ms .count) (ms .items))) (sym (l .items)) ∙ same) i;
+        items = (ap (pad (manifestLimit limits) noManifest) (kept-same (ms .count) (omega arith)) ∙ ap (λ (k : ℕ). pad k noManifest (take (ms .count) (ms .items))) (sym (l .items)) ∙ same) i;
       }
 
   -- the last of them is the current one
@@ -205,13 +223,13 @@ module _ (ms : Manifests) (l : Long ms) (e : isLaid ms ≡ true) where
 -- A layout is laid out, and says its manifests
 
 pub of-lay : (m : Manifest) → manifestOf (layManifest m) ≡ m
-of-lay m = λ i. record { number = m .number; writerEpoch = m .writerEpoch; compactorEpoch = m .compactorEpoch; names = take-pad 16 0 (m .names) i }
+of-lay m = λ i. record { number = m .number; writerEpoch = m .writerEpoch; compactorEpoch = m .compactorEpoch; names = take-pad (limits .names) 0 (m .names) i }
 
 lay-padded : (m : Manifest) → length (m .names) ≤ limits .names → isListLaid (layManifest m) ≡ true
 unfolding isPadded
 lay-padded m h =
-    let fits : length (m .names) ≤ length (pad 16 0 (m .names)) = rw (length-pad 16 0 (m .names) h) h in
-    and-both (leb (length (m .names)) (length (pad 16 0 (m .names)))) _ (le-leb _ _ fits) (laid-pad (eqb 0) 16 0 (m .names) refl)
+    let fits : length (m .names) ≤ length (pad (limits .names) 0 (m .names)) = rw (length-pad (limits .names) 0 (m .names) h) h in
+    and-both (leb (length (m .names)) (length (pad (limits .names) 0 (m .names)))) _ (le-leb _ _ fits) (laid-pad (eqb 0) (limits .names) 0 (m .names) refl)
 
 lists-padded : (ms : List Manifest) → ((m : Manifest) → m ∈ ms → length (m .names) ≤ limits .names) → all isListLaid (map layManifest ms) ≡ true
 unfolding all
@@ -228,17 +246,17 @@ pub lay-laid : (ms : List Manifest) → 1 ≤ length ms → length ms ≤ manife
 unfolding isLaid
 lay-laid ms h k f =
     let same : length ms ≡ length (map layManifest ms) = sym (length-map ms layManifest) in
-    let places = pad 9 noManifest (map layManifest ms) in
+    let places = pad (manifestLimit limits) noManifest (map layManifest ms) in
     let laid : all isListLaid (take (length ms) places) ≡ true =
-    ap (λ (n : ℕ). all isListLaid (take n places)) same ∙ ap (all isListLaid) (take-pad 9 noManifest (map layManifest ms)) ∙ lists-padded ms f in
+    ap (λ (n : ℕ). all isListLaid (take n places)) same ∙ ap (all isListLaid) (take-pad (manifestLimit limits) noManifest (map layManifest ms)) ∙ lists-padded ms f in
     let rest : all isNoManifest (drop (length ms) places) ≡ true =
-    ap (λ (n : ℕ). all isNoManifest (drop n places)) same ∙ laid-pad isNoManifest 9 noManifest (map layManifest ms) no-manifest-zero in
-    true-conj _ (le-leb 1 (length ms) h, (le-leb (length ms) 9 k, (laid, (rest, tt))))
+    ap (λ (n : ℕ). all isNoManifest (drop n places)) same ∙ laid-pad isNoManifest (manifestLimit limits) noManifest (map layManifest ms) no-manifest-zero in
+    true-conj _ (le-leb 1 (length ms) h, (le-leb (length ms) (manifestLimit limits) k, (laid, (rest, tt))))
 
--- nine places that are all zero, and those of manifest 0 alone
-pub zero-items : {z : KeptManifest} → z ≡ layManifest firstManifest → replicate 9 z ≡ replicate 9 noManifest
-zero-items e = ap (replicate 9) (e ∙ first-laid)
+-- places that are all zero, and those of manifest 0 alone
+pub zero-items : {z : KeptManifest} → z ≡ layManifest firstManifest → replicate (manifestLimit limits) z ≡ replicate (manifestLimit limits) noManifest
+zero-items e = ap (replicate (manifestLimit limits)) (e ∙ first-laid)
 
-pub first-items : {z : KeptManifest} → z ≡ layManifest firstManifest → replicate 9 z ≡ layManifests (firstManifest ∷ []) .items
+pub first-items : {z : KeptManifest} → z ≡ layManifest firstManifest → replicate (manifestLimit limits) z ≡ layManifests (firstManifest ∷ []) .items
 unfolding pad
-first-items e = zero-items e ∙ (λ i. sym first-laid i ∷ replicate 8 noManifest)
+first-items e = zero-items e ∙ (λ i. sym first-laid i ∷ replicate (limits .holds) noManifest)

@@ -4,23 +4,27 @@ use mathlib.Core.Path.{_≡_, refl, sym, ap, ap₂, _∙_}
 use mathlib.Core.Bool.{Bool, true, false, cond, _||_}
 use mathlib.Core.List.{List, [], _∷_, _++_, append-nil, map}
 use Prim.Native.Nat.{ℕ, zero, suc, _+_, _-_, _/_, _^_, _≤_, _<_}
+use native.Mathlib.Nat.{le-of-suc-le-suc}
 use native.Mathlib.Numerals.{add-one}
 use native.Mathlib.Omega.{arith}
-use borrow.Author.Tests.{eq-eqb, ne-eqb, lt-ltb, le-ltb}
-use lib.Dec.{ltb, eqb}
+use borrow.Author.Tests.{eq-eqb, ne-eqb, lt-ltb, le-ltb, le-leb, leb-true, eqb-true}
+use lib.Dec.{leb, ltb, eqb}
 use lib.ListN.{length, take, drop, getD, set, length-map, length-take, List·getD-eq-default}
-use lib.Seq.{slice, slice-empty, length-slice, length-take-le, split-at, take-suc, take-add, take-take, drop-drop, drop-at, getD-take, getD-drop, getD-set-same, set-getD, set-set}
+use lib.Seq.{slice, slice-empty, length-slice, length-take-le, split-at, take-nil, take-suc, take-add, take-take, drop-drop, drop-at, getD-take, getD-drop, getD-set-same, set-getD, set-set}
 use Rattle.rules.specs.Limits.{limits, manifestLimit}
 use Rattle.rules.specs.Lists.{any, all, has, risingAbove}
-use Rattle.rules.specs.State.{Manifest, firstManifest}
-use Rattle.rules.proofs.Lists.{and-left, and-right, or-false-left, or-false-right}
+use Rattle.rules.specs.State.{Manifest}
+use Rattle.rules.proofs.Lists.{and-left, and-right, and-both, or-false-left, or-false-right}
+use Rattle.rules.proofs.Typed.{padded-room}
 use Rattle.arrays.specs.Arrays.{pad}
-use Rattle.arrays.proofs.Lists.{getD-pad, map-append, any-map, any-found-in, Filled}
+use Rattle.arrays.proofs.Lists.{getD-pad, map-append, any-found, Filled}
 use Rattle.manifests.specs.declared.KeptManifest.{KeptManifest}
+use Rattle.manifests.specs.declared.Manifests.{Manifests}
 use Rattle.manifests.specs.declared.Reach.{Reach}
+use Rattle.manifests.specs.Manifests.{manifestOf, manifestsOf, isListLaid, isLaid}
 use Rattle.manifests.specs.Search.{Search, over, afterRead, middle, part, search}
-use Rattle.manifests.specs.Manifests.{manifestOf, pastEnd}
-use Rattle.manifests.specs.Reach.{reached, readsOf, reachOf, ReachByHalves}
+use Rattle.manifests.specs.Reach.{reached, readsOf, reachOf, ReachByHalves, namesAt, countsAt, listsIn, Searchable}
+use Rattle.manifests.proofs.Places.{all-at, hasRoom, Long, few as kept-few, padded}
 use Rattle.manifests.proofs.Searching.{search-none, search-next, search-by-halves}
 
 -- One turn of the search, on the names from low up to high
@@ -110,76 +114,133 @@ filled-empty k f l i e =
     ∙ List·getD-eq-default (map f (take i l)) 0 (omega (arith, length-map (take i l) f, length-take i l))
 
 module _ (n : ℕ) where
-  abbrev pub finds : KeptManifest → Bool
-  finds m = search n (manifestOf m .names) .found
+  abbrev pub finds : List ℕ → Bool
+  finds l = search n l .found
 
-  abbrev pub counted : KeptManifest → ℕ
-  counted m = search n (manifestOf m .names) .reads
+  abbrev pub counted : List ℕ → ℕ
+  counted l = search n l .reads
 
-  reads-passed : (ms rest : List KeptManifest) → any finds ms ≡ false → readsOf (map manifestOf (ms ++ rest)) n ≡ map counted ms ++ readsOf (map manifestOf rest) n
+  reads-passed : (ls rest : List (List ℕ)) → any finds ls ≡ false → readsOf (ls ++ rest) n ≡ map counted ls ++ readsOf rest n
   unfolding any readsOf
   reads-passed [] rest e = refl
-  reads-passed (m ∷ ms) rest e =
-      ap (λ (b : Bool). counted m ∷ cond b [] (readsOf (map manifestOf (ms ++ rest)) n)) (or-false-left (finds m) (any finds ms) e)
-      ∙ ap (λ (l : List ℕ). counted m ∷ l) (reads-passed ms rest (or-false-right (finds m) (any finds ms) e))
+  reads-passed (l ∷ ls) rest e =
+      ap (λ (b : Bool). counted l ∷ cond b [] (readsOf (ls ++ rest) n)) (or-false-left (finds l) (any finds ls) e)
+      ∙ ap (λ (r : List ℕ). counted l ∷ r) (reads-passed ls rest (or-false-right (finds l) (any finds ls) e))
 
   -- the test's answer where no list has it, and where the one at i is the first
-  pub reach-none : {found : Bool} {reads : List ℕ} (ms : List KeptManifest) → found ≡ false → any finds ms ≡ false → reads ≡ pad (manifestLimit limits) 0 (map counted ms)
-      → _≡_ {A = Reach} (record { found = found; reads = reads }) (reachOf (map manifestOf ms) n)
+  pub reach-none : {found : Bool} {reads : List ℕ} (ls : List (List ℕ)) → found ≡ false → any finds ls ≡ false → reads ≡ pad (manifestLimit limits) 0 (map counted ls)
+      → _≡_ {A = Reach} (record { found = found; reads = reads }) (reachOf ls n)
   unfolding reached readsOf
-  reach-none ms e none all = λ j. record {
-    found = (e ∙ sym none ∙ sym (any-map manifestOf (λ (m : Manifest). search n (m .names) .found) ms)) j;
+  reach-none ls e none all = λ j. record {
+    found = (e ∙ sym none) j;
     reads = (all ∙ ap (pad (manifestLimit limits) 0) (sym same)) j;
   }
     where
-      same : readsOf (map manifestOf ms) n ≡ map counted ms
-      same = ap (λ (l : List KeptManifest). readsOf (map manifestOf l) n) (sym (append-nil ms)) ∙ reads-passed ms [] none ∙ append-nil (map counted ms)
+      same : readsOf ls n ≡ map counted ls
+      same = ap (λ (l : List (List ℕ)). readsOf l n) (sym (append-nil ls)) ∙ reads-passed ls [] none ∙ append-nil (map counted ls)
 
-  pub reach-found : {reads : List ℕ} (count : ℕ) (ms : List KeptManifest) (i : ℕ) → i < count → count ≤ length ms
-      → any finds (take i ms) ≡ false → finds (getD ms i pastEnd) ≡ true → reads ≡ pad (manifestLimit limits) 0 (map counted (take (i + 1) ms))
-      → _≡_ {A = Reach} (record { found = true; reads = reads }) (reachOf (map manifestOf (take count ms)) n)
+  pub reach-found : {reads : List ℕ} (ls : List (List ℕ)) (i : ℕ) → i < length ls
+      → any finds (take i ls) ≡ false → finds (getD ls i []) ≡ true → reads ≡ pad (manifestLimit limits) 0 (map counted (take (i + 1) ls))
+      → _≡_ {A = Reach} (record { found = true; reads = reads }) (reachOf ls n)
   unfolding reached readsOf
-  reach-found {reads} count ms i h room none here all = λ j. record {
-    found = sym (any-map manifestOf (λ (m : Manifest). search n (m .names) .found) (take count ms) ∙ any-found-in finds count ms i pastEnd h room here) j;
+  reach-found {reads} ls i h none here all = λ j. record {
+    found = sym (any-found finds ls i [] h here) j;
     reads = (all ∙ ap (pad (manifestLimit limits) 0) (sym same)) j;
   }
     where
-      m : KeptManifest
-      m = getD ms i pastEnd
+      l : List ℕ
+      l = getD ls i []
 
-      rest : List KeptManifest
-      rest = drop (suc i) (take count ms)
+      rest : List (List ℕ)
+      rest = drop (suc i) ls
 
-      split : take count ms ≡ take i ms ++ m ∷ rest
-      split =
-          split-at (take count ms) i pastEnd (rw (length-take-le count ms room) h)
-          ∙ ap₂ (λ (l : List KeptManifest) (x : KeptManifest). l ++ x ∷ rest) (take-take i count ms (omega arith)) (getD-take count ms i pastEnd h)
+      one : readsOf (l ∷ rest) n ≡ counted l ∷ []
+      one = ap (λ (b : Bool). counted l ∷ cond b [] (readsOf rest n)) here
 
-      one : readsOf (map manifestOf (m ∷ rest)) n ≡ counted m ∷ []
-      one = ap (λ (b : Bool). counted m ∷ cond b [] (readsOf (map manifestOf rest) n)) here
-
-      same : readsOf (map manifestOf (take count ms)) n ≡ map counted (take (i + 1) ms)
+      same : readsOf ls n ≡ map counted (take (i + 1) ls)
       same =
-          ap (λ (l : List KeptManifest). readsOf (map manifestOf l) n) split ∙ reads-passed (take i ms) (m ∷ rest) none
-          ∙ ap (λ (l : List ℕ). map counted (take i ms) ++ l) one ∙ sym (map-append counted (take i ms) (m ∷ []))
-          ∙ ap (map counted) (sym (take-suc ms i pastEnd (omega arith)) ∙ ap (λ (k : ℕ). take k ms) (sym (add-one i)))
+          ap (λ (a : List (List ℕ)). readsOf a n) (split-at ls i [] h) ∙ reads-passed (take i ls) (l ∷ rest) none
+          ∙ ap (λ (r : List ℕ). map counted (take i ls) ++ r) one ∙ sym (map-append counted (take i ls) (l ∷ []))
+          ∙ ap (map counted) (sym (take-suc ls i [] h) ∙ ap (λ (k : ℕ). take k ls) (sym (add-one i)))
+
+-- The lists in their places
+
+pub lists-long : (names : List (List ℕ)) (counts : List ℕ) → length counts ≤ length names → length (listsIn names counts) ≡ length counts
+unfolding listsIn
+lists-long [] [] h = refl
+lists-long [] (n ∷ counts) h = absurd (omega arith)
+lists-long (a ∷ rest) [] h = refl
+lists-long (a ∷ rest) (n ∷ counts) h = ap suc (lists-long rest counts (le-of-suc-le-suc h))
+
+pub list-at : (names : List (List ℕ)) (counts : List ℕ) (i : ℕ) → getD (listsIn names counts) i [] ≡ take (getD counts i 0) (getD names i [])
+unfolding listsIn
+list-at [] counts i = sym (take-nil (getD counts i 0))
+list-at (a ∷ rest) [] i = refl
+list-at (a ∷ rest) (n ∷ counts) zero = refl
+list-at (a ∷ rest) (n ∷ counts) (suc i) = list-at rest counts i
+
+-- what is asked of the lists, at i
+module _ {names : List (List ℕ)} {counts : List ℕ} (s : Searchable names counts) (i : ℕ) (h : i < length counts) where
+  pub list-few : getD counts i 0 ≤ limits .names
+  list-few = leb-true _ _ (all-at (λ n. leb n (limits .names)) counts (s .lists) i 0 h)
+
+  pub array-whole : length (getD names i []) ≡ limits .names
+  array-whole = eqb-true _ _ (all-at (λ a. eqb (length a) (limits .names)) names (s .whole) i [] (omega (arith, s .arrays)))
+
+-- The lists of the kept manifests
+
+lists-of : (k : ℕ) (ms : List KeptManifest) → listsIn (namesAt ms) (take k (countsAt ms)) ≡ map (λ (m : Manifest). m .names) (map manifestOf (take k ms))
+unfolding listsIn
+lists-of zero [] = refl
+lists-of zero (m ∷ ms) = refl
+lists-of (suc k) [] = refl
+lists-of (suc k) (m ∷ ms) = ap (λ (ls : List (List ℕ)). take (m .count) (m .names) ∷ ls) (lists-of k ms)
+
+pub lists-laid : (ms : Manifests) → listsIn (namesAt (ms .items)) (take (ms .count) (countsAt (ms .items))) ≡ map (λ (m : Manifest). m .names) (manifestsOf ms)
+lists-laid ms = lists-of (ms .count) (ms .items)
+
+-- each list fits its array, and each array is whole
+counts-few : (k : ℕ) (ms : List KeptManifest) → all hasRoom ms ≡ true → all isListLaid (take k ms) ≡ true → all (λ n. leb n (limits .names)) (take k (countsAt ms)) ≡ true
+unfolding all
+counts-few zero ms r e = refl
+counts-few (suc k) [] r e = refl
+counts-few (suc k) (m ∷ ms) r e =
+    let fits = padded-room (m .count) (m .names) (and-left (isListLaid m) _ e) in
+    and-both (leb (m .count) (limits .names)) _ (le-leb (m .count) (limits .names) (omega (arith, eqb-true (length (m .names)) (limits .names) (and-left (hasRoom m) _ r))))
+    (counts-few k ms (and-right (hasRoom m) _ r) (and-right (isListLaid m) _ e))
+
+arrays-whole : (ms : List KeptManifest) → all hasRoom ms ≡ true → all (λ a. eqb (length a) (limits .names)) (namesAt ms) ≡ true
+unfolding all
+arrays-whole [] r = refl
+arrays-whole (m ∷ ms) r = and-both (hasRoom m) _ (and-left (hasRoom m) _ r) (arrays-whole ms (and-right (hasRoom m) _ r))
+
+pub searchable : (ms : Manifests) → Long ms → isLaid ms ≡ true → Searchable (namesAt (ms .items)) (take (ms .count) (countsAt (ms .items)))
+searchable ms l e =
+    let counts = countsAt (ms .items) in
+    let short = length-take (ms .count) counts in
+    record {
+      arrays = omega (arith, length-map (ms .items) (λ (m : KeptManifest). m .count), length-map (ms .items) (λ (m : KeptManifest). m .names));
+      places = omega (arith, kept-few ms e);
+      lists = counts-few (ms .count) (ms .items) (l .names) (padded ms l e);
+      whole = arrays-whole (ms .items) (l .names);
+    }
 
 -- Rising lists keep the answer, and each list's count is within its own bound
 
-keeps : (ms : List Manifest) (n : ℕ) → all (λ m. risingAbove 0 (m .names)) ms ≡ true → reached ms n ≡ any (λ m. has n (m .names)) ms
+keeps : (ls : List (List ℕ)) (n : ℕ) → all (risingAbove 0) ls ≡ true → reached ls n ≡ any (has n) ls
 unfolding all any reached
 keeps [] n e = refl
-keeps (m ∷ ms) n e = ap₂ _||_ (search-by-halves .keeps 0 n (m .names) (and-left (risingAbove 0 (m .names)) _ e)) (keeps ms n (and-right (risingAbove 0 (m .names)) _ e))
+keeps (l ∷ ls) n e = ap₂ _||_ (search-by-halves .keeps 0 n l (and-left (risingAbove 0 l) _ e)) (keeps ls n (and-right (risingAbove 0 l) _ e))
 
-few : (ms : List Manifest) (n i r : ℕ) → length (getD ms i firstManifest .names) < 2 ^ r → getD (readsOf ms n) i 0 ≤ r
+few : (ls : List (List ℕ)) (n i r : ℕ) → length (getD ls i []) < 2 ^ r → getD (readsOf ls n) i 0 ≤ r
 unfolding readsOf
 few [] n i r h = omega arith
-few (m ∷ ms) n zero r h = search-by-halves .few n (m .names) r h
-few (m ∷ ms) n (suc i) r h = later (search n (m .names) .found) (readsOf ms n) (few ms n i r h)
+few (l ∷ ls) n zero r h = search-by-halves .few n l r h
+few (l ∷ ls) n (suc i) r h = later (search n l .found) (readsOf ls n) (few ls n i r h)
   where
     later : (b : Bool) (l : List ℕ) → getD l i 0 ≤ r → getD (cond b [] l) i 0 ≤ r
     later true l k = omega arith
     later false l k = k
 
 pub reach-by-halves : ReachByHalves
-reach-by-halves = record { keeps = keeps; few = λ ms n i r h. rw (getD-pad (manifestLimit limits) 0 (readsOf ms n) i) (few ms n i r h) }
+reach-by-halves = record { keeps = keeps; few = λ ls n i r h. rw (getD-pad (manifestLimit limits) 0 (readsOf ls n) i) (few ls n i r h) }

@@ -11,7 +11,7 @@ ghost use Rattle.rules.specs.Step.{heldBy};
 ghost use Rattle.rules.specs.Sound.{ordered};
 ghost use Rattle.holds.specs.Holds.{holdsOf};
 ghost use Rattle.manifests.specs.Manifests.{layManifest, manifestOf, manifestsOf, layManifests, currentOf, olderOf, isListLaid, isNoManifest, isLaid, epochsFollow, hasNumber, numbered, Repackable};
-ghost use Rattle.manifests.specs.Reach.{reachOf};
+ghost use Rattle.manifests.specs.Reach.{namesAt, countsAt, listsIn, Searchable, reachOf};
 use holds::Holds;
 use rules::MANIFESTS;
 use rules::NAMES;
@@ -220,37 +220,33 @@ impl Manifests {
         self.items[last]
     }
 
-    // Whether a kept manifest names the object, and how many names of each list were read to tell, counted where they are read.
-    // A sound list rises, so it is searched by halves; the loops are left by the label once the object is found.
-    pub fn reaches(self, object: u64) -> Reach
-        requires { ⌜ isLaid self ≡ true ⌝ }
-        ensures { λ r. ⌜ r ≡ reachOf (manifestsOf self) object ⌝ }
+    // The names in the places of the manifests, and how many each has. Whoever tests many objects lends them, and copies no manifest.
+    pub fn names(self) -> [[u64; NAMES]; MANIFESTS]
+        ensures { λ r. ⌜ r ≡ namesAt (self .items) ⌝ }
     {
-        let kept = self.count;
-        let mut found = false;
-        let mut reads = [0usize; MANIFESTS];
+        let none = [0u64; NAMES];
+        let mut names = [none; MANIFESTS];
         let mut i: usize = 0;
-        'all: while i < kept {
+        while i < MANIFESTS {
             let m = self.items[i];
-            let mut low: usize = 0;
-            let mut high = m.count;
-            while low < high {
-                let middle = low + (high - low) / 2;
-                let name = m.names[middle];
-                reads[i] += 1;
-                if name == object {
-                    found = true;
-                    break 'all;
-                }
-                if name < object {
-                    low = middle + 1;
-                } else {
-                    high = middle;
-                }
-            }
+            let list = m.names;
+            names[i] = list;
             i += 1;
         }
-        Reach { found, reads }
+        names
+    }
+
+    pub fn counts(self) -> [usize; MANIFESTS]
+        ensures { λ r. ⌜ r ≡ countsAt (self .items) ⌝ }
+    {
+        let mut counts = [0usize; MANIFESTS];
+        let mut i: usize = 0;
+        while i < MANIFESTS {
+            let m = self.items[i];
+            counts[i] = m.count;
+            i += 1;
+        }
+        counts
     }
 
     // Of the first n manifests those that a hold names, and behind them `last`, which is then current.
@@ -275,6 +271,37 @@ impl Manifests {
             items,
         }
     }
+}
+
+// Whether one of these lists names the object, and how many names of each were read to tell, counted where they are read.
+// A sound list rises, so it is searched by halves; the loops are left by the label once the object is found.
+pub fn reaches(names: &[[u64; NAMES]], counts: &[usize], object: u64) -> Reach
+    requires { ⌜ Searchable (now names) (now counts) ⌝ }
+    ensures { λ r. ⌜ r ≡ reachOf (listsIn (now (names .entry)) (now (counts .entry))) object ⌝ }
+{
+    let mut found = false;
+    let mut reads = [0usize; MANIFESTS];
+    let mut i: usize = 0;
+    'all: while i < counts.len() {
+        let mut low: usize = 0;
+        let mut high = counts[i];
+        while low < high {
+            let middle = low + (high - low) / 2;
+            let name = names[i][middle];
+            reads[i] += 1;
+            if name == object {
+                found = true;
+                break 'all;
+            }
+            if name < object {
+                low = middle + 1;
+            } else {
+                high = middle;
+            }
+        }
+        i += 1;
+    }
+    Reach { found, reads }
 }
 
 // Whether the two epochs add to at most the number, and neither is below the one before.

@@ -20,23 +20,29 @@ sum-fits w c n h =
 
 returns : tie.Need-returns
 unfolding epochsFollow conj
-returns c = rw (lt-leb _ _ (c .if1 .taken))
+returns c =
+    let s = c .before .before .args in
+    rw (lt-leb (s .writer) (s .manifest .writer) (omega (arith, c .if1 .taken)))
 
 returns-2 : tie.Need-returns-2
 unfolding epochsFollow conj
-returns-2 c = rw (le-leb _ _ (c .before .before .if1 .left), lt-leb _ _ (c .if2 .taken))
+returns-2 c =
+    let s = c .before .before .before .before .args in
+    rw (le-leb (s .writer) (s .manifest .writer) (omega arith), lt-leb (s .compactor) (s .manifest .compactor) (omega (arith, c .if2 .taken)))
 
 returns-3 : tie.Need-returns-3
 unfolding epochsFollow conj
 returns-3 c =
-    let m = c .before .before .before .before .before .before .args .manifest in
-    rw (le-leb _ _ (c .before .before .before .before .if1 .left), le-leb _ _ (c .before .before .if2 .left), lt-leb (m .writer + m .compactor) (m .number) (omega arith))
+    let s = c .before .before .before .before .before .before .args in
+    let m = s .manifest in
+    rw (le-leb (s .writer) (m .writer) (omega arith), le-leb (s .compactor) (m .compactor) (omega arith), lt-leb (m .writer + m .compactor) (m .number) (omega arith))
 
 returns-4 : tie.Need-returns-4
 unfolding epochsFollow conj
 returns-4 c =
-    let m = c .before .before .before .before .before .before .before .before .args .manifest in
-    rw (le-leb _ _ (c .before .before .before .before .before .before .if1 .left), le-leb _ _ (c .before .before .before .before .if2 .left), and-true) (sum-fits (m .writer) (m .compactor) (m .number) (omega arith))
+    let s = c .before .before .before .before .before .before .before .before .args in
+    let m = s .manifest in
+    rw (le-leb (s .writer) (m .writer) (omega arith), le-leb (s .compactor) (m .compactor) (omega arith), and-true) (sum-fits (m .writer) (m .compactor) (m .number) (omega arith))
 
 pub follows-spec : {M : Type 1} → statement M
 follows-spec = tie.close (tie.spec returns returns-2 returns-3 returns-4)

@@ -65,7 +65,7 @@ asked n writer compactor ms = ordered n writer compactor (map manifestOf ms)
 
 abbrev Inv-loop : tie.InvT-loop
 Inv-loop self count writer₀ compactor₀ last₀ i₀ writer compactor last i =
-    (i ≤ count) × (count ≤ manifestLimit limits) × (count ≡ self .count) × (length (self .items) ≡ 9)
+    (i ≤ count) × (count ≤ manifestLimit limits) × (count ≡ self .count) × (length (self .items) ≡ manifestLimit limits)
     × (asked (least i last) writer compactor (slice i count (self .items)) ≡ asked 0 0 0 (take count (self .items)))
 
 abbrev μ-loop : tie.MeasureT-loop

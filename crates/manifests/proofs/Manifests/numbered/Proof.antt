@@ -24,7 +24,7 @@ asked number ms = lookup (λ (m : Manifest). m .number) (λ m. m) firstManifest 
 
 abbrev Inv-loop : tie.InvT-loop
 Inv-loop number self count i₀ i =
-    (i ≤ count) × (count ≤ manifestLimit limits) × (count ≡ self .count) × (length (self .items) ≡ 9) × (asked number (slice i count (self .items)) ≡ asked number (take count (self .items)))
+    (i ≤ count) × (count ≤ manifestLimit limits) × (count ≡ self .count) × (length (self .items) ≡ manifestLimit limits) × (asked number (slice i count (self .items)) ≡ asked number (take count (self .items)))
 
 abbrev μ-loop : tie.MeasureT-loop
 μ-loop number self count i₀ i = count - i

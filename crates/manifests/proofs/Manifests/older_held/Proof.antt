@@ -8,7 +8,7 @@ use native.Mathlib.Omega.{arith}
 use borrow.Author.Tests.{not-true, not-false}
 use lib.ListN.{length, take}
 use lib.Seq.{slice}
-use Rattle.rules.specs.Limits.{limits}
+use Rattle.rules.specs.Limits.{limits, manifestLimit}
 use Rattle.rules.specs.Lists.{all}
 use Rattle.rules.specs.Step.{heldBy}
 use Rattle.arrays.proofs.Scan.{scan-next, scan-stop, scan-end, all-hit, all-miss}
@@ -26,7 +26,7 @@ asked holds ms = all (heldBy (holdsOf holds)) (map manifestOf ms)
 
 abbrev Inv-loop : tie.InvT-loop
 Inv-loop holds self older i₀ i =
-    (i ≤ older) × (older ≤ limits .holds) × (older ≡ self .count - 1) × (length (self .items) ≡ 9) × (asked holds (slice i older (self .items)) ≡ asked holds (take older (self .items)))
+    (i ≤ older) × (older ≤ limits .holds) × (older ≡ self .count - 1) × (length (self .items) ≡ manifestLimit limits) × (asked holds (slice i older (self .items)) ≡ asked holds (take older (self .items)))
 
 abbrev μ-loop : tie.MeasureT-loop
 μ-loop holds self older i₀ i = older - i

@@ -28,7 +28,7 @@ held holds m = heldBy (holdsOf holds) (manifestOf m)
 
 abbrev Inv-loop : tie.InvT-loop
 Inv-loop n holds last self items₀ k₀ i₀ items k i =
-    (i ≤ n) × (n ≤ manifestLimit limits) × (length (self .items) ≡ 9) × Packed 9 noManifest (held holds) (self .items) i k items
+    (i ≤ n) × (n ≤ manifestLimit limits) × (length (self .items) ≡ manifestLimit limits) × Packed (manifestLimit limits) noManifest (held holds) (self .items) i k items
 
 abbrev μ-loop : tie.MeasureT-loop
 μ-loop n holds last self items₀ k₀ i₀ items k i = n - i
@@ -44,7 +44,7 @@ module _ (ms : Manifests) (n : ℕ) (hs : Holds) (last : KeptManifest) (l : Long
       omega (arith, ap length (sym kept-places) ∙ length-map said layManifest, r .few)
 
   -- the last one goes behind them
-  packed-last : {k : ℕ} {items : List KeptManifest} → Packed 9 noManifest (held hs) (ms .items) n k items
+  packed-last : {k : ℕ} {items : List KeptManifest} → Packed (manifestLimit limits) noManifest (held hs) (ms .items) n k items
       → _≡_ {A = Manifests} (record { count = k + 1; items = set items k last }) (layManifests (keep (heldBy (holdsOf hs)) (map manifestOf (take n (ms .items))) ++ (manifestOf last ∷ [])))
   packed-last {k} {items} d =
       let said = keep (heldBy (holdsOf hs)) (map manifestOf (take n (ms .items))) in
@@ -55,7 +55,7 @@ module _ (ms : Manifests) (n : ℕ) (hs : Holds) (last : KeptManifest) (l : Long
       let one-more : k + 1 ≡ length (said ++ (manifestOf last ∷ [])) = omega (arith, length-append said (manifestOf last ∷ []), d .count, long-said) in
       λ i. record {
         count = one-more i;
-        items = (ap₂ (λ (a : List KeptManifest) (j : ℕ). set a j last) (d .array) (d .count) ∙ pad-set 9 noManifest places last (omega (arith, kept-few)) ∙ ap (pad 9 noManifest) (sym laid)) i;
+        items = (ap₂ (λ (a : List KeptManifest) (j : ℕ). set a j last) (d .array) (d .count) ∙ pad-set (manifestLimit limits) noManifest places last (omega (arith, kept-few)) ∙ ap (pad (manifestLimit limits) noManifest) (sym laid)) i;
       }
 
 zero-requires : tie.Need-zero-requires Inv-loop μ-loop
@@ -68,7 +68,7 @@ loop-holds c =
       omega arith,
       omega (arith, b .pre .some, few (s .t1) (b .pre .laid)),
       long (s .t1) _ (b .good .0) .items,
-      rw (zero-items (c .zero .ensures)) (packed-none 9 noManifest (held (s .holds)) (s .t1 .items)),
+      rw (zero-items (c .zero .ensures)) (packed-none (manifestLimit limits) noManifest (held (s .holds)) (s .t1 .items)),
     )
 
 mul-m : tie.Need-mul-m Inv-loop μ-loop
@@ -113,26 +113,26 @@ loop-again c =
 
 -- the array when the loop has ended, and that a place is left in it
 module _ (c : tie.After-loop Inv-loop μ-loop) where
-  done : (let b = c .before .before .before in Packed 9 noManifest (held (b .args .holds)) (b .args .t1 .items) (b .args .n) (c .before .loop .k) (c .before .loop .items))
+  done : (let b = c .before .before .before in Packed (manifestLimit limits) noManifest (held (b .args .holds)) (b .args .t1 .items) (b .args .n) (c .before .loop .k) (c .before .loop .items))
   done =
       let b = c .before .before .before in
       let all : c .before .loop .i ≡ b .args .n = omega arith in
-      subst (λ (j : ℕ). Packed 9 noManifest (held (b .args .holds)) (b .args .t1 .items) j (c .before .loop .k) (c .before .loop .items)) all (c .before .loop .inv .3)
+      subst (λ (j : ℕ). Packed (manifestLimit limits) noManifest (held (b .args .holds)) (b .args .t1 .items) j (c .before .loop .k) (c .before .loop .items)) all (c .before .loop .inv .3)
 
-  k≤8 : c .before .loop .k ≤ 8
-  k≤8 =
+  k-few : c .before .loop .k ≤ limits .holds
+  k-few =
       let b = c .before .before .before in
       let s = b .args in
       omega (arith, done .count, kept-few (s .t1) (s .n) (s .holds) (s .last) (long (s .t1) _ (b .good .0)) (b .pre))
 
 mul-items-2 : tie.Need-mul-items-2 Inv-loop μ-loop
-mul-items-2 c = omega (arith, k≤8 c)
+mul-items-2 c = omega (arith, k-few c)
 
 array-set-from-items-2 : tie.Need-array-set-from-items-2 Inv-loop μ-loop
-array-set-from-items-2 c = omega (arith, k≤8 c)
+array-set-from-items-2 c = omega (arith, k-few c)
 
 add-t20 : tie.Need-add-t20 Inv-loop μ-loop
-add-t20 c = omega (arith, k≤8 c)
+add-t20 c = omega (arith, k-few c)
 
 returns : tie.Need-returns Inv-loop μ-loop
 returns c =

@@ -9,6 +9,7 @@ use borrow.Author.Needs.{needs}
 use borrow.Author.Tests.{not-true, not-false}
 use lib.ListN.{length, drop}
 use lib.Seq.{slice, take-all}
+use Rattle.rules.specs.Limits.{limits, manifestLimit}
 use Rattle.rules.specs.Lists.{all}
 use Rattle.arrays.proofs.Scan.{scan-next, scan-stop, scan-end, all-hit, all-miss}
 use Rattle.manifests.specs.declared.KeptManifest.{KeptManifest}
@@ -19,16 +20,16 @@ use Rattle.manifests.proofs.Manifests.rest_laid.Tie as tie
 
 abbrev Inv-loop : tie.InvT-loop
 Inv-loop count self i₀ i =
-    (i ≤ 9) × (length (self .items) ≡ 9) × (all isNoManifest (slice i 9 (self .items)) ≡ all isNoManifest (drop count (self .items)))
+    (i ≤ manifestLimit limits) × (length (self .items) ≡ manifestLimit limits) × (all isNoManifest (slice i (manifestLimit limits) (self .items)) ≡ all isNoManifest (drop count (self .items)))
 
 abbrev μ-loop : tie.MeasureT-loop
-μ-loop count self i₀ i = 9 - i
+μ-loop count self i₀ i = manifestLimit limits - i
 
 loop-holds : tie.Need-loop-holds Inv-loop μ-loop
 loop-holds c =
     let s = c .args in
-    let nine = long (s .t1) _ (c .good .0) .items in
-    (omega arith, nine, ap (λ (l : List KeptManifest). all isNoManifest (drop (s .count) l)) (take-all 9 (s .t1 .items) (omega arith)))
+    let places = long (s .t1) _ (c .good .0) .items in
+    (omega arith, places, ap (λ (l : List KeptManifest). all isNoManifest (drop (s .count) l)) (take-all (manifestLimit limits) (s .t1 .items) (omega arith)))
 
 mul-m : tie.Need-mul-m Inv-loop μ-loop
 mul-m c = omega arith
@@ -43,7 +44,7 @@ returns : tie.Need-returns Inv-loop μ-loop
 returns c =
     let a = c .before .before .before .before in
     let s = a .before .args in
-    scan-stop (s .t1 .items) 9 (all isNoManifest) (a .loop .inv .2) pastEnd (omega arith) (omega arith) false (all-miss _ _ _ (sym (c .before .is-no-manifest .ensures) ∙ not-true _ (c .if1 .taken)))
+    scan-stop (s .t1 .items) (manifestLimit limits) (all isNoManifest) (a .loop .inv .2) pastEnd (omega arith) (omega arith) false (all-miss _ _ _ (sym (c .before .is-no-manifest .ensures) ∙ not-true _ (c .if1 .taken)))
 
 add-i : tie.Need-add-i Inv-loop μ-loop
 add-i c = omega arith
@@ -56,14 +57,14 @@ loop-again c =
     let a = c .before .before .before .before in
     let s = a .before .args in
     let h = a .loop .inv in
-    (omega arith, h .1, scan-next (s .t1 .items) 9 (all isNoManifest) (h .2) pastEnd (omega arith) (omega arith) (all isNoManifest) (all-hit _ _ _ (sym (c .before .is-no-manifest .ensures) ∙ not-false _ (c .if1 .left))))
+    (omega arith, h .1, scan-next (s .t1 .items) (manifestLimit limits) (all isNoManifest) (h .2) pastEnd (omega arith) (omega arith) (all isNoManifest) (all-hit _ _ _ (sym (c .before .is-no-manifest .ensures) ∙ not-false _ (c .if1 .left))))
 
 returns-2 : tie.Need-returns-2 Inv-loop μ-loop
 unfolding all
 returns-2 c =
     let s = c .before .before .args in
-    let e : c .before .loop .i ≡ 9 = omega arith in
-    scan-end (s .t1 .items) 9 (all isNoManifest) (rw e at (c .before .loop .inv .2))
+    let e : c .before .loop .i ≡ manifestLimit limits = omega arith in
+    scan-end (s .t1 .items) (manifestLimit limits) (all isNoManifest) (rw e at (c .before .loop .inv .2))
 
 pub rest-laid-spec : {M : Type 1} → statement M
 rest-laid-spec =
