@@ -6,6 +6,7 @@ use mathlib.Core.List.{List, [], _∷_}
 use lib.Dec.{leb}
 use lib.ListN.{length}
 use borrow.Author.Tests.{leb-true}
+use Rattle.rules.specs.Step.{longestVerdict}
 use Rattle.rules.specs.Limits.{limits}
 use Rattle.rules.specs.State.{State, fresh}
 use Rattle.rules.specs.Sound.{sound}
@@ -42,7 +43,7 @@ allFit (runs q ∷ cases) = fits q && allFit cases
 -- what holds of the rules holds of the layout
 
 abbrev roomy : Request → Ask
-roomy q = record { request = q; room = 522 }
+roomy q = record { request = q; room = longestVerdict }
 
 next-after : (s : State) → sound limits s ≡ true → (q : Request) → fits q ≡ true → after (lay s) q ≡ lay (rules.after s q)
 next-after s e q f = ap (λ (x : Request). keptAfter (lay s) (roomy x)) (typed-asks q f) ∙ next-laid s e (roomy q)

@@ -123,11 +123,11 @@ module _ (l : Ledger) (e : isSound l ≡ true) (t x : ℕ) where
   module _ {m : KeptManifest} (is : m ≡ layManifest (readBy t (view l) x)) where
     pub read-room : m .count ≤ length (m .names)
     read-room =
-        let long : length (m .names) ≡ 16 = ap (λ (k : KeptManifest). length (k .names)) is ∙ length-pad 16 0 (readBy t (view l) x .names) read-short in
+        let long : length (m .names) ≡ limits .names = ap (λ (k : KeptManifest). length (k .names)) is ∙ length-pad (limits .names) 0 (readBy t (view l) x .names) read-short in
         omega (arith, ap (λ (k : KeptManifest). k .count) is, read-short)
 
     pub read-names : take (m .count) (m .names) ≡ readBy t (view l) x .names
-    read-names = ap (λ (k : KeptManifest). take (k .count) (k .names)) is ∙ take-pad 16 0 (readBy t (view l) x .names)
+    read-names = ap (λ (k : KeptManifest). take (k .count) (k .names)) is ∙ take-pad (limits .names) 0 (readBy t (view l) x .names)
 
     -- no more than a verdict's list has room for
     pub read-few : length (take (m .count) (m .names)) ≤ limits .places

@@ -10,7 +10,7 @@ use lib.ListN.{length, take, getD, replicate, length-append, length-map}
 use lib.Seq.{append-snoc, take-append-seam, getD-append-seam}
 use mir.Val.{Val}
 use denote.Laws.{Is}
-use Rattle.rules.specs.Limits.{limits}
+use Rattle.rules.specs.Limits.{limits, manifestLimit}
 use Rattle.rules.specs.State.{Manifest, State, kept}
 use Rattle.rules.specs.Sound.{sound}
 use Rattle.rules.proofs.Lists.{and-both, all-in, in-all, true-conj}
@@ -53,7 +53,7 @@ whole l vs is =
 
 module _ (s : State) where
   rest : List KeptManifest
-  rest = replicate (9 - length (map layManifest (kept s))) noManifest
+  rest = replicate (manifestLimit limits - length (map layManifest (kept s))) noManifest
 
   kept-places : layManifests (kept s) .items ≡ map layManifest (s .older) ++ (layManifest (s .current) ∷ rest)
   unfolding pad rest

@@ -31,7 +31,7 @@ use Rattle.ledger.proofs.View.{Sized, Laid, laid-parts, kept-view}
 -- A test of every element
 
 module _ {A : Type 0} (p q : A → Bool) where
-  all-same : (l : List A) → ((x : A) → x ∈ l → p x ≡ q x) → all p l ≡ all q l
+  pub all-same : (l : List A) → ((x : A) → x ∈ l → p x ≡ q x) → all p l ≡ all q l
   unfolding all
   all-same [] f = refl
   all-same (x ∷ xs) f = rw (f x (List·Memᴰ·head refl), all-same xs (λ y m. f y (List·Memᴰ·tail m)))
@@ -103,13 +103,13 @@ module _ (l : Ledger) (s : Sized l) (p : Laid l) where
   pub sound-by-parts : sound limits (view l) ≡ (objectsSound l && (manifestsSound l && holdsSound l))
   unfolding sound isHeld objectsSound manifestsSound holdsSound
   sound-by-parts =
-      (λ i. conj (eq-eqb (length (l .objects .items)) 64 (s .objects) i
+      (λ i. conj (eq-eqb (length (l .objects .items)) (limits .places) (s .objects) i
       ∷ all (λ o. place-same l o i) (l .objects .items)
       ∷ distinct (numbersIn (l .objects .items))
       ∷ ordered 0 0 0 (kept-view l s p i)
       ∷ lists-same i
       ∷ risingAbove 0 (numbers (holdsOf (l .holds)))
-      ∷ le-leb (length (holdsOf (l .holds))) 8 holds-few i
+      ∷ le-leb (length (holdsOf (l .holds))) (limits .holds) holds-few i
       ∷ holds-same i
       ∷ all (heldBy (holdsOf (l .holds))) (olderOf (l .manifests)) ∷ []))
       ∙ regroup _ _ _ _ _ _ _ _

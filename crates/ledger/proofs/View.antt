@@ -24,9 +24,9 @@ use Rattle.ledger.proofs.Ledger as ledger
 
 -- the arrays are as long as their types say
 pub record Sized (l : Ledger) : Type 0 where
-  pub objects : length (l .objects .items) ≡ 64
+  pub objects : length (l .objects .items) ≡ limits .places
   pub manifests : Long (l .manifests)
-  pub holds : length (l .holds .items) ≡ 8
+  pub holds : length (l .holds .items) ≡ limits .holds
 
 pub sized : (l : Ledger) (vs : List Val) → Is ledger.the-row l vs → Sized l
 sized l vs is = record {

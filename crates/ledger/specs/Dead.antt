@@ -5,7 +5,6 @@ use mathlib.Core.List.{List}
 use Prim.Native.Nat.{ℕ}
 use lib.Dec.{eqb}
 use Rattle.rules.specs.declared.Object.{Object}
-use Rattle.rules.specs.State.{Manifest}
 use Rattle.objects.specs.Objects.{roleEpoch}
 use Rattle.manifests.specs.Reach.{reached}
 
@@ -13,6 +12,6 @@ use Rattle.manifests.specs.Reach.{reached}
 abbrev pub pendingBy : ℕ → ℕ → Object → Bool
 pendingBy writer compactor o = eqb (o .epoch) (roleEpoch (o .role) writer compactor) && not (o .named)
 
--- not pending, and the reach test finds it in none of these manifests (on rising lists: none names it)
-abbrev pub deadBy : List Manifest → ℕ → ℕ → Object → Bool
-deadBy ms writer compactor o = not (pendingBy writer compactor o) && not (reached ms (o .number))
+-- not pending, and the reach test finds it in none of these lists (where they rise: none names it)
+abbrev pub deadBy : List (List ℕ) → ℕ → ℕ → Object → Bool
+deadBy ls writer compactor o = not (pendingBy writer compactor o) && not (reached ls (o .number))

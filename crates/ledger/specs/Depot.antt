@@ -7,6 +7,7 @@ use Rattle.rules.specs.declared.Step.{Step}
 use Rattle.rules.specs.declared.Kind.the-variants.{Collect as COLLECT}
 use Rattle.rules.specs.State.{fresh}
 use Rattle.rules.specs.Request.{Request, Asked, Unreadable}
+use Rattle.rules.specs.Step.{longestVerdict}
 use Rattle.rules.specs.Typed.{nameList, verdictOf}
 use Rattle.rules.specs.Depot.{Case, starred, runs, week}
 use Rattle.rules.specs.OutOfOrder.{outOfOrder}
@@ -22,7 +23,7 @@ typed Unreadable = record { time = 0; kind = COLLECT; list = nameList [] }
 
 -- there is room for the longest verdict
 abbrev pub after : Ledger → Request → Ledger
-after l q = keptAfter l (asked (typed q) 522)
+after l q = keptAfter l (asked (typed q) longestVerdict)
 
 unfoldable pub Holds : Ledger → List Case → Type 0
 Holds l [] = Unit {0}

@@ -2,6 +2,7 @@
 -- Assumes nothing.
 use mathlib.Core.Bool.{Bool}
 use mathlib.Core.List.{List, [], _∷_}
+use Prim.Native.Nat.{ℕ}
 use lib.ListN.{take}
 use Rattle.rules.specs.declared.Object.{Object}
 use Rattle.rules.specs.declared.Hold.{Hold}
@@ -10,7 +11,7 @@ use Rattle.rules.specs.State.{Manifest}
 use Rattle.rules.specs.Words.{live}
 use Rattle.rules.specs.Step.{heldBy}
 use Rattle.rules.specs.Sound.{ordered}
-use Rattle.objects.specs.Objects.{namedIn, numbersIn, placeSoundBy}
+use Rattle.objects.specs.Objects.{among, namedIn, numbersIn, placeSoundBy}
 use Rattle.manifests.specs.declared.KeptManifest.{KeptManifest}
 use Rattle.manifests.specs.Manifests.{manifestsOf, olderOf, currentOf, hasNumber}
 use Rattle.holds.specs.Holds.{holdsOf, numbers}
@@ -24,6 +25,10 @@ objectsSound l =
 -- a list rises strictly without 0, and its objects are stored and marked as named
 unfoldable pub listSound : List Object → KeptManifest → Bool
 listSound ps m = conj (risingAbove 0 (take (m .count) (m .names)) ∷ all (namedIn ps) (take (m .count) (m .names)) ∷ [])
+
+-- the same, by the numbers of the objects that are marked as named
+abbrev pub listSoundBy : List ℕ → KeptManifest → Bool
+listSoundBy named m = conj (risingAbove 0 (take (m .count) (m .names)) ∷ all (among named) (take (m .count) (m .names)) ∷ [])
 
 -- the kept manifests are in order, their lists are sound, and each but the current one is held
 unfoldable pub manifestsSound : Ledger → Bool

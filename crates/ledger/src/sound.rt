@@ -8,24 +8,24 @@ ghost use Rattle.rules.specs.Lists.{all};
 ghost use Rattle.holds.specs.Holds.{holdsOf};
 ghost use Rattle.manifests.specs.Manifests.{manifestsOf, isLaid as manifestsLaid};
 ghost use Rattle.ledger.specs.Ledger.{isLaidOut, isSound};
-ghost use Rattle.ledger.specs.Parts.{listSound, holdKept, objectsSound, manifestsSound, holdsSound};
+ghost use Rattle.ledger.specs.Parts.{listSound, listSoundBy, holdKept, objectsSound, manifestsSound, holdsSound};
 use crate::Ledger;
 use holds::Holds;
 use manifests::KeptManifest;
 use manifests::Manifests;
 use objects::Objects;
 
-// Whether a manifest's list rises strictly without 0, and its objects are stored and marked as named.
-fn list_sound(manifest: KeptManifest, objects: Objects) -> bool
+// Whether a manifest's list rises strictly without 0, and its objects are among those that are stored and marked as named.
+fn list_sound(manifest: KeptManifest, named: &[u64]) -> bool
     requires { ⌜ manifest .count ≤ limits .names ⌝ }
-    ensures { λ r. ⌜ r ≡ listSound (objects .items) manifest ⌝ }
+    ensures { λ r. ⌜ r ≡ listSoundBy (now (named .entry)) manifest ⌝ }
 {
     let count = manifest.count;
     let names = manifest.names;
     if !rules::is_rising(&names[..count]) {
         return false;
     }
-    objects.all_named(&names[..count])
+    objects::all_among(named, &names[..count])
 }
 
 // Whether every kept list is sound.
@@ -33,11 +33,12 @@ fn lists_sound(manifests: Manifests, objects: Objects) -> bool
     requires { ⌜ manifestsLaid manifests ≡ true ⌝ }
     ensures { λ r. ⌜ r ≡ all (listSound (objects .items)) (take (manifests .count) (manifests .items)) ⌝ }
 {
+    let named = objects.named();
     let count = manifests.count;
     let mut i: usize = 0;
     while i < count {
         let m = manifests.items[i];
-        if !list_sound(m, objects) {
+        if !list_sound(m, &named) {
             return false;
         }
         i += 1;

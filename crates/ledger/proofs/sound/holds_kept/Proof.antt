@@ -26,7 +26,7 @@ asked ms = all (holdKept (manifestsOf ms))
 
 abbrev Inv-loop : tie.InvT-loop
 Inv-loop manifests holds count i₀ i =
-    (i ≤ count) × (count ≤ limits .holds) × (count ≡ holds .count) × (length (holds .items) ≡ 8) × (asked manifests (slice i count (holds .items)) ≡ asked manifests (take count (holds .items)))
+    (i ≤ count) × (count ≤ limits .holds) × (count ≡ holds .count) × (length (holds .items) ≡ limits .holds) × (asked manifests (slice i count (holds .items)) ≡ asked manifests (take count (holds .items)))
 
 abbrev μ-loop : tie.MeasureT-loop
 μ-loop manifests holds count i₀ i = count - i

@@ -14,13 +14,13 @@ use Rattle.ledger.proofs.steps.object_list.Statement.{statement}
 use Rattle.ledger.proofs.steps.object_list.Tie as tie
 
 abbrev Inv-loop : tie.InvT-loop
-Inv-loop names objects₀ i₀ objects i = (i ≤ length names) × (length names ≤ limits .places) × Filled 64 0 (λ (n : ℕ). n) names i objects
+Inv-loop names objects₀ i₀ objects i = (i ≤ length names) × (length names ≤ limits .places) × Filled (limits .places) 0 (λ (n : ℕ). n) names i objects
 
 abbrev μ-loop : tie.MeasureT-loop
 μ-loop names objects₀ i₀ objects i = length names - i
 
 loop-holds : tie.Need-loop-holds Inv-loop μ-loop
-loop-holds c = (omega arith, c .pre, filled-none 64 0 (λ (n : ℕ). n) (c .args .names .now))
+loop-holds c = (omega arith, c .pre, filled-none (limits .places) 0 (λ (n : ℕ). n) (c .args .names .now))
 
 mul-objects : tie.Need-mul-objects Inv-loop μ-loop
 mul-objects c = omega arith
@@ -52,7 +52,7 @@ returns c =
     let all : a .loop .i ≡ length names = omega arith in
     λ j. record {
       count = all j;
-      objects = (a .loop .inv .2 ∙ ap (pad 64 0) (map-id (take (a .loop .i) names) ∙ take-all (a .loop .i) names (omega arith)) ∙ sym (padded-pad 64 names (a .loop .inv .1))) j;
+      objects = (a .loop .inv .2 ∙ ap (pad (limits .places) 0) (map-id (take (a .loop .i) names) ∙ take-all (a .loop .i) names (omega arith)) ∙ sym (padded-pad (limits .places) names (a .loop .inv .1))) j;
     }
 
 pub object-list-spec : {M : Type 1} → statement M
