@@ -87,10 +87,10 @@ module _ (l : List ℕ) where
   length-cons f fs = ap length (bytes-cons f fs) ∙ length-append (field (f .tag) (content l f)) (bytesOf fs l) ∙ ap (λ (n : ℕ). n + length (bytesOf fs l)) (length-field (f .tag) (content l f))
 
   -- a narrow field beside a list that is not too long
-  pub content-short : (f : Field) → isNarrow f ≡ true → length l ≤ limits .places → length (content l f) ≤ 512
+  pub content-short : (f : Field) → isNarrow f ≡ true → length l ≤ limits .places → length (content l f) ≤ 8 * limits .places
   content-short f narrow h = by (eqb (f .width) 0) refl
     where
-      by : (b : Bool) → eqb (f .width) 0 ≡ b → length (content l f) ≤ 512
+      by : (b : Bool) → eqb (f .width) 0 ≡ b → length (content l f) ≤ 8 * limits .places
       by true e = omega (arith, length-list l f (eqb-true (f .width) 0 e))
       by false e = omega (arith, length-number l f (eqb-false (f .width) 0 e), leb-true (f .width) 8 narrow)
 

@@ -76,8 +76,8 @@ rising-short most l h = leb-true (length l) most (conj-true (risingAbove 0 l ∷
 
 -- ---- a record that was written is whole, and its fields are found
 
-pub length-record : (tag : ℕ) (fs : List Field) (l : List ℕ) (n : ℕ) → length l ≤ n → length (recordOf tag fs l) ≤ 3 + total n fs
-length-record tag fs l n h = omega (arith, length-field tag (bytesOf fs l), length-bytes fs l, total-mono fs (length l) n h)
+pub length-record : (tag : ℕ) (fs : List Field) (l : List ℕ) → length (recordOf tag fs l) ≡ 3 + total (length l) fs
+length-record tag fs l = omega (arith, length-field tag (bytesOf fs l), length-bytes fs l)
 
 pub record Written (tag : ℕ) (fs : List Field) (l : List ℕ) : Type 0 where
   pub long : leb 3 (length (recordOf tag fs l)) ≡ true

@@ -1,13 +1,13 @@
--- Reading and writing steps undo each other, and all else is refused.
+-- Reading and writing steps undo each other, and all else is refused; and how long a step is at most.
 -- Assumes nothing.
 use mathlib.Core.Path.{_≡_, refl, subst}
 use mathlib.Core.Bool.{Bool, true, false, cond}
 use mathlib.Core.List.{List, [], _∷_, map}
-use Prim.Native.Nat.{ℕ, _%_}
+use Prim.Native.Nat.{ℕ, _+_, _%_, _≤_}
 use native.Mathlib.Nat.{mod-eq-of-lt}
 use native.Mathlib.Omega.{arith}
-use lib.Dec.{leb, eqb, lit<}
-use lib.ListN.{getD, drop, replicate}
+use lib.Dec.{leb, eqb, lit<, lit≤}
+use lib.ListN.{length, getD, drop, replicate}
 use borrow.Author.Tests.{leb-true, eqb-true}
 use Rattle.rules.specs.declared.Role.{Role}
 use Rattle.rules.specs.declared.Role.the-variants.{Writer, Compactor}
@@ -24,10 +24,10 @@ use Rattle.records.specs.declared.KindRead.the-variants.{Known, Unknown}
 use Rattle.records.specs.Format.{roleCode, mostFields}
 use Rattle.records.specs.Found.{isWhole}
 use Rattle.records.specs.Walk.{Walked, Found, Broken, walk}
-use Rattle.records.specs.Steps.{outerTag, fieldsOf, encodeStep, withRole, kindFrom, formed, requestFrom, requestOfWalk, requestOfTag, decodeStep}
+use Rattle.records.specs.Steps.{outerTag, fieldsOf, encodeStep, longestStep, withRole, kindFrom, formed, requestFrom, requestOfWalk, requestOfTag, decodeStep}
 use Rattle.records.specs.RoundTrip.{fits, allFit, areBytes, StepRoundTrip}
 use Rattle.records.proofs.WalkLaws.{split, blank, number, list-zero, total, single, filledFrom, filled}
-use Rattle.records.proofs.RoundTripRecords.{picked, fit-at, isTidy, Beside, empty, first-empty, rising-short, record-written, Rewrites, RewritesBy, record-read, rewrites-as}
+use Rattle.records.proofs.RoundTripRecords.{picked, fit-at, isTidy, Beside, empty, first-empty, rising-short, length-record, record-written, Rewrites, RewritesBy, record-read, rewrites-as}
 
 -- ---- reading what was written
 
@@ -43,26 +43,29 @@ role-read Compactor k = refl
 currency-kept : (a b : Bool) (c : ℕ) → conj (a ∷ b ∷ leb c currencyLimit ∷ []) ≡ true → c % 65536 ≡ c
 currency-kept a b c h = mod-eq-of-lt (omega (arith, leb-true c currencyLimit (conj-true (a ∷ b ∷ leb c currencyLimit ∷ []) h .1 .1 .0)))
 
--- what the table says of a kind: its fields, the fields that its outer tag is read with, the step of its numbers, and its list
+-- what the table says of a kind: its fields, the fields that its outer tag is read with, the step of its numbers, its list, and its length
 record Line (t : ℕ) (k : Kind) : Type 0 where
   tidy : isTidy (fieldsOf t k) ≡ true
   blanks : (value : List ℕ) → requestOfTag (outerTag k) value (blankKind (outerTag k)) ≡ requestOfWalk (outerTag k) (walk (map blank (fieldsOf t k)) value)
   asked : (l : List ℕ) → wellFormed limits t k l ≡ true → requestOfWalk (outerTag k) (Found (map number (fieldsOf t k)) l) ≡ formed (Asked t k l)
   beside : (l : List ℕ) → wellFormed limits t k l ≡ true → Beside (fieldsOf t k) l
+  short : (l : List ℕ) → wellFormed limits t k l ≡ true → 3 + total (length l) (fieldsOf t k) ≤ longestStep
 
 line : (t : ℕ) (k : Kind) → Line t k
 unfolding kindFrom wellFormed all any single total
-line t (FENCE r n) = record { tidy = refl; blanks = λ v. refl; asked = λ l h. rw (role-read r (λ w. FENCE w n)); beside = λ l h. empty l h }
+line t (FENCE r n) = record { tidy = refl; blanks = λ v. refl; asked = λ l h. rw (role-read r (λ w. FENCE w n)); beside = λ l h. empty l h; short = λ l h. lit≤ tt }
 line t (PUT r e n c) =
-    record { tidy = refl; blanks = λ v. refl; asked = λ l h. rw (role-read r (λ w. PUT w e n (c % 65536)), currency-kept _ _ c h); beside = λ l h. first-empty l _ h }
-line t (COMMIT e n) = record { tidy = refl; blanks = λ v. refl; asked = λ l h. refl; beside = λ l h. (omega (arith, rising-short (limits .names) l h), refl) }
-line t (COMPACT e n o) = record { tidy = refl; blanks = λ v. refl; asked = λ l h. refl; beside = λ l h. first-empty l _ h }
-line t (HOLD x m e) = record { tidy = refl; blanks = λ v. refl; asked = λ l h. refl; beside = λ l h. first-empty l _ h }
-line t (RENEW x e) = record { tidy = refl; blanks = λ v. refl; asked = λ l h. refl; beside = λ l h. first-empty l _ h }
-line t (RELEASE x) = record { tidy = refl; blanks = λ v. refl; asked = λ l h. refl; beside = λ l h. first-empty l _ h }
-line t (LIST x) = record { tidy = refl; blanks = λ v. refl; asked = λ l h. refl; beside = λ l h. empty l h }
-line t (LOOK c x) = record { tidy = refl; blanks = λ v. refl; asked = λ l h. rw (currency-kept _ _ c h); beside = λ l h. first-empty l _ h }
-line t COLLECT = record { tidy = refl; blanks = λ v. refl; asked = λ l h. refl; beside = λ l h. empty l h }
+    record { tidy = refl; blanks = λ v. refl; asked = λ l h. rw (role-read r (λ w. PUT w e n (c % 65536)), currency-kept _ _ c h); beside = λ l h. first-empty l _ h; short = λ l h. lit≤ tt }
+line t (COMMIT e n) =
+    let few = rising-short (limits .names) in
+    record { tidy = refl; blanks = λ v. refl; asked = λ l h. refl; beside = λ l h. (omega (arith, few l h), refl); short = λ l h. omega (arith, few l h) }
+line t (COMPACT e n o) = record { tidy = refl; blanks = λ v. refl; asked = λ l h. refl; beside = λ l h. first-empty l _ h; short = λ l h. lit≤ tt }
+line t (HOLD x m e) = record { tidy = refl; blanks = λ v. refl; asked = λ l h. refl; beside = λ l h. first-empty l _ h; short = λ l h. lit≤ tt }
+line t (RENEW x e) = record { tidy = refl; blanks = λ v. refl; asked = λ l h. refl; beside = λ l h. first-empty l _ h; short = λ l h. lit≤ tt }
+line t (RELEASE x) = record { tidy = refl; blanks = λ v. refl; asked = λ l h. refl; beside = λ l h. first-empty l _ h; short = λ l h. lit≤ tt }
+line t (LIST x) = record { tidy = refl; blanks = λ v. refl; asked = λ l h. refl; beside = λ l h. empty l h; short = λ l h. lit≤ tt }
+line t (LOOK c x) = record { tidy = refl; blanks = λ v. refl; asked = λ l h. rw (currency-kept _ _ c h); beside = λ l h. first-empty l _ h; short = λ l h. lit≤ tt }
+line t COLLECT = record { tidy = refl; blanks = λ v. refl; asked = λ l h. refl; beside = λ l h. empty l h; short = λ l h. lit≤ tt }
 
 reads-written : (t : ℕ) (k : Kind) (l : List ℕ) → wellFormed limits t k l ≡ true → allFit (fieldsOf t k) l ≡ true → decodeStep (encodeStep t k l) ≡ Asked t k l
 unfolding decodeStep
@@ -153,4 +156,10 @@ refuses-other bs bytes never = read (decodeStep bs) (writes bs bytes)
     read (Asked t k l) w = absurd (never t k l (w .0) (w .1) (w .2))
 
 pub step-round-trip : StepRoundTrip
-step-round-trip = record { readsWritten = reads-written; writesRead = writes-read; refuses = refuses-other }
+step-round-trip = record {
+  readsWritten = reads-written;
+  writesRead = writes-read;
+  refuses = refuses-other;
+  longest = λ t k l h. omega (arith, length-record (outerTag k) (fieldsOf t k) l, line t k .short l h);
+  longestIs = refl;
+}

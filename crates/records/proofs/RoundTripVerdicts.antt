@@ -6,25 +6,26 @@ use mathlib.Core.List.{List, [], _∷_, map}
 use Prim.Native.Nat.{ℕ, _+_, _*_, _-_, _%_, _≤_, _<_}
 use native.Mathlib.Nat.{mod-eq-of-lt}
 use native.Mathlib.Omega.{arith}
-use lib.Dec.{leb, eqb, lit<}
+use lib.Dec.{leb, eqb, lit<, lit≤}
 use lib.ListN.{length, getD, drop}
 use borrow.Author.Tests.{lt-leb, leb-true, eq-eqb, ne-eqb, eqb-true, not-true}
 use Rattle.fields.specs.Bytes.{be, words}
 use Rattle.fields.specs.Fields.{claimed}
 use Rattle.fields.proofs.Bytes.{length-words}
-use Rattle.fields.proofs.Fields.{length-field, claimed-field}
+use Rattle.fields.proofs.Fields.{claimed-field}
 use Rattle.rules.specs.declared.Answer.{Answer}
 use Rattle.rules.specs.declared.Answer.the-variants.{Refused, Done, Epoch, Listed, Found, Collected}
 use Rattle.rules.specs.Lists.{conj, all, any}
 use Rattle.rules.specs.Table.{nonzero}
 use Rattle.rules.specs.Limits.{limits}
+use Rattle.rules.specs.Step.{longestVerdict}
 use Rattle.rules.proofs.Lists.{and-both, true-false, conj-true}
 use Rattle.records.specs.declared.Field.{Field}
 use Rattle.records.specs.Format.{code, list, manifest, bytesOf, recordOf}
 use Rattle.records.specs.Walk.{Walked, Found as FieldsFound, Broken, walk}
 use Rattle.records.specs.Verdicts.{verdictTag, verdictFields, lastRow, verdictFormed, encodeVerdict, shapeOf, codeAlone, answerFrom, isAlone, Decoded, IsVerdict, NoVerdict, formed, replyOfWalk, decodeVerdict}
 use Rattle.records.specs.RoundTrip.{fits, allFit, areBytes, VerdictRoundTrip}
-use Rattle.records.proofs.WalkLaws.{blank, number, list-zero, total, length-bytes, single, filledFrom, filled}
+use Rattle.records.proofs.WalkLaws.{blank, number, list-zero, total, single, filledFrom, filled}
 use Rattle.records.proofs.RoundTripRecords.{picked, fit-at, isTidy, Beside, empty, first-empty, rising-short, length-record, record-written, Rewrites, RewritesBy, record-read, rewrites-as}
 
 -- ---- reading what was written
@@ -45,7 +46,7 @@ unfolding shapeOf bytesOf be total
 list-shape gs l few =
     let fs = code 0 ∷ list ∷ gs in
     let bs = recordOf verdictTag fs l in
-    let long : length bs ≡ 10 + 8 * length l + total (length l) gs = omega (arith, length-field verdictTag (bytesOf fs l), length-bytes fs l) in
+    let long : length bs ≡ 10 + 8 * length l + total (length l) gs = omega (arith, length-record verdictTag fs l) in
     let claims : claimed (drop 7 bs) ≡ 8 * length l = claimed-field 7 (words l) (bytesOf gs l) (omega (arith, length-words l)) ∙ length-words l in
     rw (long, claims, lt-leb (10 + 8 * length l + total (length l) gs) 7 (omega arith))
 
@@ -64,22 +65,27 @@ code-read n a h =
     let t = conj-true (a ∷ nonzero n ∷ leb n lastRow ∷ []) h in
     rw (not-true (eqb n 0) (t .1 .0), mod-eq-of-lt {n = n} {m = 256} (omega (arith, leb-true n lastRow (t .1 .1 .0))))
 
--- what the table says of an answer: its fields, the fields that its shape is read with, the reply of its numbers, and its list
+-- what the table says of an answer: its fields, the fields that its shape is read with, the reply of its numbers, its list, and its length
 record Line (a : Answer) : Type 0 where
   tidy : isTidy (verdictFields a) ≡ true
   shape : (l : List ℕ) → length l ≤ limits .places → shapeOf (encodeVerdict a l) ≡ shaped a
   blanks : verdictFields (shaped a) ≡ map blank (verdictFields a)
   said : (l : List ℕ) → verdictFormed a l ≡ true → replyOfWalk (shaped a) (FieldsFound (map number (verdictFields a)) l) ≡ formed a l
   beside : (l : List ℕ) → verdictFormed a l ≡ true → Beside (verdictFields a) l
+  short : (l : List ℕ) → verdictFormed a l ≡ true → 3 + total (length l) (verdictFields a) ≤ longestVerdict
 
 line : (a : Answer) → Line a
 unfolding shapeOf verdictFormed all any single total bytesOf be
-line (Refused n) = record { tidy = refl; shape = λ l few. refl; blanks = refl; said = λ l h. rw (code-read n _ h); beside = λ l h. first-empty l _ h }
-line Done = record { tidy = refl; shape = λ l few. refl; blanks = refl; said = λ l h. refl; beside = λ l h. empty l h }
-line (Epoch e) = record { tidy = refl; shape = λ l few. refl; blanks = refl; said = λ l h. refl; beside = λ l h. first-empty l _ h }
-line (Listed m) = record { tidy = refl; shape = listed-shape m; blanks = refl; said = λ l h. refl; beside = λ l h. (omega (arith, rising-short (limits .names) l h), refl) }
-line (Found n) = record { tidy = refl; shape = λ l few. refl; blanks = refl; said = λ l h. refl; beside = λ l h. first-empty l _ h }
-line Collected = record { tidy = refl; shape = collected-shape; blanks = refl; said = λ l h. refl; beside = λ l h. (rising-short (limits .places) l h, refl) }
+line (Refused n) = record { tidy = refl; shape = λ l few. refl; blanks = refl; said = λ l h. rw (code-read n _ h); beside = λ l h. first-empty l _ h; short = λ l h. lit≤ tt }
+line Done = record { tidy = refl; shape = λ l few. refl; blanks = refl; said = λ l h. refl; beside = λ l h. empty l h; short = λ l h. lit≤ tt }
+line (Epoch e) = record { tidy = refl; shape = λ l few. refl; blanks = refl; said = λ l h. refl; beside = λ l h. first-empty l _ h; short = λ l h. lit≤ tt }
+line (Listed m) =
+    let few = rising-short (limits .names) in
+    record { tidy = refl; shape = listed-shape m; blanks = refl; said = λ l h. refl; beside = λ l h. (omega (arith, few l h), refl); short = λ l h. omega (arith, few l h) }
+line (Found n) = record { tidy = refl; shape = λ l few. refl; blanks = refl; said = λ l h. refl; beside = λ l h. first-empty l _ h; short = λ l h. lit≤ tt }
+line Collected =
+    let few = rising-short (limits .places) in
+    record { tidy = refl; shape = collected-shape; blanks = refl; said = λ l h. refl; beside = λ l h. (few l h, refl); short = λ l h. omega (arith, few l h) }
 
 reads-written : (a : Answer) (l : List ℕ) → verdictFormed a l ≡ true → allFit (verdictFields a) l ≡ true → decodeVerdict (encodeVerdict a l) ≡ IsVerdict a l
 unfolding decodeVerdict conj
@@ -88,20 +94,6 @@ reads-written a l well fit =
     let beside = answer .beside l well in
     let w = record-written verdictTag (verdictFields a) l (answer .tidy) fit beside in
     rw (w .long, w .whole, answer .shape l (beside .0), answer .blanks, w .found, answer .said l well, well)
-
--- ---- how long a verdict is
-
-at-most : (a : Answer) (l : List ℕ) (n : ℕ) → length l ≤ n → leb (3 + total n (verdictFields a)) 522 ≡ true → length (encodeVerdict a l) ≤ 522
-at-most a l n h short = omega (arith, length-record verdictTag (verdictFields a) l n h, leb-true (3 + total n (verdictFields a)) 522 short)
-
-longest : (a : Answer) (l : List ℕ) → verdictFormed a l ≡ true → length (encodeVerdict a l) ≤ 522
-unfolding total verdictFormed
-longest (Refused n) l h = at-most (Refused n) l (limits .places) (first-empty l _ h .0) refl
-longest Done l h = at-most Done l (limits .places) (empty l h .0) refl
-longest (Epoch e) l h = at-most (Epoch e) l (limits .places) (first-empty l _ h .0) refl
-longest (Listed m) l h = at-most (Listed m) l (limits .names) (rising-short (limits .names) l h) refl
-longest (Found n) l h = at-most (Found n) l (limits .places) (first-empty l _ h .0) refl
-longest Collected l h = at-most Collected l (limits .places) (rising-short (limits .places) l h) refl
 
 -- ---- writing what was read
 
@@ -169,4 +161,12 @@ refuses-other bs bytes never = read (decodeVerdict bs) (writes bs bytes)
     read (IsVerdict a l) w = absurd (never a l (w .0) (w .1) (w .2))
 
 pub verdict-round-trip : VerdictRoundTrip
-verdict-round-trip = record { readsWritten = reads-written; writesRead = writes-read; refuses = refuses-other; longest = longest }
+unfolding total
+verdict-round-trip = record {
+  readsWritten = reads-written;
+  writesRead = writes-read;
+  refuses = refuses-other;
+  longest = λ a l h. omega (arith, length-record verdictTag (verdictFields a) l, line a .short l h);
+  met = λ l h. omega (arith, length-record verdictTag (verdictFields Collected) l);
+  longestIs = refl;
+}

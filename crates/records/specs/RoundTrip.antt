@@ -8,12 +8,14 @@ use lib.Dec.{ltb}
 use lib.ListN.{length}
 use Rattle.rules.specs.declared.Kind.{Kind}
 use Rattle.rules.specs.declared.Answer.{Answer}
+use Rattle.rules.specs.declared.Answer.the-variants.{Collected}
 use Rattle.rules.specs.Lists.{all}
 use Rattle.rules.specs.Limits.{limits}
 use Rattle.rules.specs.Table.{wellFormed}
 use Rattle.rules.specs.Request.{Asked, Unreadable}
+use Rattle.rules.specs.Step.{longestVerdict}
 use Rattle.records.specs.declared.Field.{Field}
-use Rattle.records.specs.Steps.{fieldsOf, encodeStep, decodeStep}
+use Rattle.records.specs.Steps.{fieldsOf, encodeStep, longestStep, decodeStep}
 use Rattle.records.specs.Verdicts.{verdictFields, verdictFormed, encodeVerdict, decodeVerdict, IsVerdict, NoVerdict}
 
 -- a field's number fits its width, and a list's numbers fit 64 bits
@@ -35,6 +37,9 @@ pub record StepRoundTrip : Type 0 where
   -- bytes that no step is written as are refused
   pub refuses : (bs : List ℕ) → areBytes bs ≡ true → ((t : ℕ) (k : Kind) (l : List ℕ) → wellFormed limits t k l ≡ true → allFit (fieldsOf t k) l ≡ true → encodeStep t k l ≡ bs → ⊥)
       → decodeStep bs ≡ Unreadable
+  -- no step's record is longer than a COMMIT's with all the names of a manifest
+  pub longest : (t : ℕ) (k : Kind) (l : List ℕ) → wellFormed limits t k l ≡ true → length (encodeStep t k l) ≤ longestStep
+  pub longestIs : longestStep ≡ 551
 
 pub record VerdictRoundTrip : Type 0 where
   pub readsWritten : (a : Answer) (l : List ℕ) → verdictFormed a l ≡ true → allFit (verdictFields a) l ≡ true → decodeVerdict (encodeVerdict a l) ≡ IsVerdict a l
@@ -42,5 +47,7 @@ pub record VerdictRoundTrip : Type 0 where
       → (verdictFormed a l ≡ true) × (allFit (verdictFields a) l ≡ true) × (encodeVerdict a l ≡ bs)
   pub refuses : (bs : List ℕ) → areBytes bs ≡ true → ((a : Answer) (l : List ℕ) → verdictFormed a l ≡ true → allFit (verdictFields a) l ≡ true → encodeVerdict a l ≡ bs → ⊥)
       → decodeVerdict bs ≡ NoVerdict
-  -- "The longest verdict is 522 bytes (64 collected)."
-  pub longest : (a : Answer) (l : List ℕ) → verdictFormed a l ≡ true → length (encodeVerdict a l) ≤ 522
+  -- "the longest verdict becomes 2,058 bytes" (document 02, request 4): none is longer, and every place collected makes one that is as long
+  pub longest : (a : Answer) (l : List ℕ) → verdictFormed a l ≡ true → length (encodeVerdict a l) ≤ longestVerdict
+  pub met : (l : List ℕ) → length l ≡ limits .places → length (encodeVerdict Collected l) ≡ longestVerdict
+  pub longestIs : longestVerdict ≡ 2058

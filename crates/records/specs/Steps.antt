@@ -2,7 +2,7 @@
 -- Assumes nothing.
 use mathlib.Core.Bool.{cond, _&&_}
 use mathlib.Core.List.{List, [], _∷_}
-use Prim.Native.Nat.{ℕ, _-_, _%_}
+use Prim.Native.Nat.{ℕ, _+_, _-_, _*_, _%_}
 use lib.Dec.{leb, eqb}
 use lib.ListN.{length, drop, getD, replicate}
 use Rattle.fields.specs.Fields.{claimed}
@@ -10,6 +10,7 @@ use Rattle.rules.specs.declared.Role.{Role}
 use Rattle.rules.specs.declared.Role.the-variants.{Writer, Compactor}
 use Rattle.rules.specs.declared.Kind.{Kind}
 use Rattle.rules.specs.declared.Kind.the-variants.{Fence as FENCE, Put as PUT, Commit as COMMIT, Compact as COMPACT, Hold as HOLD, Renew as RENEW, Release as RELEASE, List as LIST, Look as LOOK, Collect as COLLECT}
+use Rattle.rules.specs.Limits.{limits}
 use Rattle.rules.specs.Request.{Request, Asked, Unreadable}
 use Rattle.rules.specs.Typed.{canSay, nameList}
 use Rattle.records.specs.declared.Field.{Field}
@@ -49,6 +50,10 @@ fieldsOf t COLLECT = time t ∷ []
 -- the record of a step
 abbrev pub encodeStep : ℕ → Kind → List ℕ → List ℕ
 encodeStep t k l = recordOf (outerTag k) (fieldsOf t k) l
+
+-- the bytes of a COMMIT with as many names as a manifest has: three for the tag and length of the record and of each field, eight for a number
+abbrev pub longestStep : ℕ
+longestStep = 3 + 3 * (3 + 8) + (3 + 8 * limits .names)
 
 -- The reader
 

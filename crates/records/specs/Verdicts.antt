@@ -40,7 +40,7 @@ abbrev pub risingList : ℕ → List ℕ → Bool
 risingList most l = conj (risingAbove 0 l ∷ leb (length l) most ∷ [])
 
 -- "a verdict is well formed when its code is in the table, its fields are for code 0 those of one accepted kind, else the code alone, epoch and object
--- aren't 0, and its list rises strictly without 0, at most 64 long, or 16 beside a manifest"
+-- aren't 0, and its list rises strictly without 0, at most 64 long, or 16 beside a manifest", by now 256 and 64
 unfoldable pub verdictFormed : Answer → List ℕ → Bool
 verdictFormed (Refused n) l = conj (none l ∷ nonzero n ∷ leb n lastRow ∷ [])
 verdictFormed Done l = none l

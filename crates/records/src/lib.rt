@@ -23,8 +23,9 @@ pub use writing::write_record;
 // How many inner fields a record has at most.
 pub const FIELDS: usize = 6;
 
-// The bytes of the longest verdict: 64 collected objects.
-pub const LONGEST_VERDICT: usize = 522;
+// The bytes of the longest verdict, every place collected: a tag and a length for the record and for each of its two fields,
+// one for the code, eight for an object's number.
+pub const LONGEST_VERDICT: usize = 3 * 3 + 1 + 8 * rules::PLACES;
 
 // An inner field: its tag and its number in so many bytes. Width 0 is the list, which stands beside the fields.
 pub struct Field {

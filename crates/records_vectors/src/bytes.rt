@@ -1,7 +1,7 @@
 // The bytes of a vector, from text as document 01 prints it.
 
-// More than the longest record here.
-pub const ROOM: usize = 600;
+// More than the longest record here, which has a number more than the longest verdict.
+pub const ROOM: usize = records::LONGEST_VERDICT + 2 * 8;
 
 // The first `len` of the bytes.
 pub struct Bytes {
@@ -45,12 +45,16 @@ impl Bytes {
     }
 
     // The numbers from 1 on, in eight bytes each.
-    pub fn with_numbers(self, count: u8) -> Self {
+    pub fn with_numbers(self, count: usize) -> Self {
         let mut all = self;
         let mut n = 0;
         while n < count {
             n += 1;
-            all = all.with_text(b"00000000000000").with_byte(n);
+            let high = (n / 256 % 256) as u8;
+            let low = (n % 256) as u8;
+            all = all.with_text(b"000000000000")
+                .with_byte(high)
+                .with_byte(low);
         }
         all
     }

@@ -5,6 +5,7 @@ mod say;
 mod vector;
 
 ghost use Prim.Native.Nat.{_≤_};
+use records::LONGEST_VERDICT;
 use rules::Answer;
 use rules::Kind;
 use rules::NAMES;
@@ -22,6 +23,11 @@ use vector::verdict_with;
 use vector::write_long_verdict;
 use vector::write_step;
 use vector::write_verdict;
+
+// What request 4 of document 02 raised: the names in a manifest and the objects stored, as document 01 had them.
+const FIRST_NAMES: usize = 16;
+
+const FIRST_PLACES: usize = 64;
 
 // Well-formed records
 
@@ -52,7 +58,8 @@ fn steps_of_each_kind() {
     step(b"19 000B 01 0008 0000000000000015");
 }
 
-// What is just inside: every byte of a number, currency 0 and 999, no list and the longest, expiry 0 and the time itself.
+// What is just inside: every byte of a number, currency 0 and 999, no list, a name more than document 01 let be and the
+// longest list, expiry 0 and the time itself.
 fn steps_at_bounds() {
     step(b"19 000B 01 0008 0123456789ABCDEF");
     step(b"10 001A 01 0008 FFFFFFFFFFFFFFFF 02 0001 01 04 0008 FFFFFFFFFFFFFFFF");
@@ -66,8 +73,12 @@ fn steps_at_bounds() {
         b"12 0024 01 0008 0000000000000000 03 0008 0000000000000000 04 0008 0000000000000000 07 0000",
     );
     step_with(
-        b"12 00A4 01 0008 0000000000000001 03 0008 0000000000000001 04 0008 0000000000000002 07 0080",
-        16,
+        b"12 00AC 01 0008 0000000000000005 03 0008 0000000000000001 04 0008 0000000000000002 07 0088",
+        FIRST_NAMES + 1,
+    );
+    step_with(
+        b"12 0224 01 0008 0000000000000001 03 0008 0000000000000001 04 0008 0000000000000002 07 0200",
+        NAMES,
     );
     step(
         b"14 002C 01 0008 0000000000000005 08 0008 0000000000000001 09 0008 0000000000000000 0A 0008 0000000000000000",
@@ -86,15 +97,25 @@ fn verdicts_of_each_shape() {
         b"40 0022 00 0001 00 07 0010 0000000000000002 0000000000000005 09 0008 0000000000000006",
     );
     verdict(b"40 0012 00 0001 00 07 0000 09 0008 0000000000000000");
-    verdict_with(
-        b"40 0092 00 0001 00 07 0080",
-        16,
-        b"09 0008 0000000000000009",
-    );
     verdict(b"40 000F 00 0001 00 05 0008 0000000000000001");
     verdict(b"40 000F 00 0001 00 07 0008 0000000000000003");
     verdict(b"40 0007 00 0001 00 07 0000");
-    verdict_with(b"40 0207 00 0001 00 07 0200", 64, b"");
+}
+
+// The longest lists, beside a manifest and collected, and those a number longer than document 01 let be.
+fn verdicts_at_bounds() {
+    verdict_with(
+        b"40 009A 00 0001 00 07 0088",
+        FIRST_NAMES + 1,
+        b"09 0008 0000000000000009",
+    );
+    verdict_with(
+        b"40 0212 00 0001 00 07 0200",
+        NAMES,
+        b"09 0008 0000000000000009",
+    );
+    verdict_with(b"40 020F 00 0001 00 07 0208", FIRST_PLACES + 1, b"");
+    verdict_with(b"40 0807 00 0001 00 07 0800", PLACES, b"");
 }
 
 // The front of a trace: its end, torn, or a record; only the first three bytes and the length play a part.
@@ -195,8 +216,8 @@ fn steps_with_other_lists() {
         b"12 0034 01 0008 0000000000000005 03 0008 0000000000000001 04 0008 0000000000000002 07 0010 0000000000000000 0000000000000001",
     );
     step_with(
-        b"12 00AC 01 0008 0000000000000005 03 0008 0000000000000001 04 0008 0000000000000002 07 0088",
-        17,
+        b"12 022C 01 0008 0000000000000005 03 0008 0000000000000001 04 0008 0000000000000002 07 0208",
+        NAMES + 1,
     );
     step(
         b"12 0028 01 0008 0000000000000005 03 0008 0000000000000001 04 0008 0000000000000002 07 0004 00000001",
@@ -235,10 +256,10 @@ fn verdicts_with_other_fields() {
     verdict(b"40 000F 00 0001 00 07 0008 0000000000000000");
     verdict(b"40 0017 00 0001 00 07 0010 0000000000000003 0000000000000003");
     verdict(b"40 000B 00 0001 00 07 0004 00000001");
-    verdict_with(b"40 020F 00 0001 00 07 0208", 65, b"");
+    verdict_with(b"40 080F 00 0001 00 07 0808", PLACES + 1, b"");
     verdict_with(
-        b"40 009A 00 0001 00 07 0088",
-        17,
+        b"40 021A 00 0001 00 07 0208",
+        NAMES + 1,
         b"09 0008 0000000000000009",
     );
 }
@@ -313,7 +334,7 @@ fn steps_no_reader_takes() {
     write_plain(Kind::Renew { hold: 1, expiry: 4 }, 32);
 }
 
-// A list beside FENCE, a list with 0, 17 names, and a number behind the list.
+// A list beside FENCE, a list with 0, a name too many, and a number behind the list; and two lists that a reader takes.
 fn lists_no_reader_takes() {
     let fence = Kind::Fence {
         role: Role::Writer,
@@ -322,9 +343,10 @@ fn lists_no_reader_takes() {
     let commit = Kind::Commit { epoch: 1, slot: 1 };
     write_beside(fence, 1, 1);
     write_beside(commit, 1, 0);
-    write_beside(commit, 17, 16);
+    write_beside(commit, NAMES + 1, NAMES);
     write_beside(commit, 1, 2);
     write_beside(commit, 1, 1);
+    write_beside(commit, FIRST_NAMES + 1, FIRST_NAMES + 1);
 }
 
 // A verdict, with a list that says `count` and has so many places filled.
@@ -347,7 +369,7 @@ fn answer_beside(answer: Answer, count: usize, filled: usize, room: usize)
     write_verdict(verdict_beside(answer, count, filled), room);
 }
 
-// More room than the record takes, exact room, a byte too little, and none.
+// More room than the record takes, exact room, a byte too little, and none; lists longer than document 01 let be.
 fn verdict_rooms() {
     answer(Answer::Refused(17), 32);
     answer(Answer::Refused(17), 7);
@@ -359,12 +381,14 @@ fn verdict_rooms() {
     answer_beside(Answer::Listed(6), 1, 1, 28);
     answer_beside(Answer::Collected, 1, 1, 18);
     answer_beside(Answer::Collected, 1, 1, 17);
+    answer_beside(Answer::Collected, FIRST_PLACES + 1, FIRST_PLACES + 1, 32);
+    answer_beside(Answer::Listed(1), FIRST_NAMES + 1, FIRST_NAMES + 1, 32);
 }
 
 // The longest verdict: exact room, and a byte too little.
 fn longest_verdict() {
-    write_long_verdict(b"40 0207 00 0001 00 07 0200", 64, 522);
-    write_long_verdict(b"40 0207 00 0001 00 07 0200", 64, 521);
+    write_long_verdict(b"40 0807 00 0001 00 07 0800", PLACES, LONGEST_VERDICT);
+    write_long_verdict(b"40 0807 00 0001 00 07 0800", PLACES, LONGEST_VERDICT - 1);
 }
 
 // Code 0 and 18, lists beside what has none, a number behind the list, epoch 0, object 0, and lists that are too long.
@@ -376,8 +400,8 @@ fn verdicts_no_reader_takes() {
     answer(Answer::Epoch(0), 0);
     answer(Answer::Found(0), 32);
     answer_beside(Answer::Collected, 1, 0, 32);
-    answer_beside(Answer::Collected, 65, 64, 32);
-    answer_beside(Answer::Listed(1), 17, 17, 32);
+    answer_beside(Answer::Collected, PLACES + 1, PLACES, 32);
+    answer_beside(Answer::Listed(1), NAMES + 1, NAMES + 1, 32);
 }
 
 fn main() {
@@ -385,6 +409,7 @@ fn main() {
     steps_of_each_kind();
     steps_at_bounds();
     verdicts_of_each_shape();
+    verdicts_at_bounds();
     next_records();
     steps_with_another_head();
     steps_with_other_fields();

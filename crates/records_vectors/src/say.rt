@@ -13,6 +13,9 @@ const MOST_PRINTED: usize = 64;
 
 const FIRST: usize = 24;
 
+// Of longer lists only the first numbers, the last and how many there are.
+const MOST_LISTED: usize = 8;
+
 pub fn say(text: &[u8]) {
     io::write_all(STDOUT_FILENO, text);
 }
@@ -73,10 +76,13 @@ fn say_list(count: usize, numbers: &[u64]) {
     }
     say(b" list");
     let mut i = 0;
-    while i < count {
-        say(b" ");
-        say_number(numbers[i]);
+    while i < count && i < MOST_LISTED {
+        say_field(b" ", numbers[i]);
         i += 1;
+    }
+    if i < count {
+        say_field(b" .. ", numbers[count - 1]);
+        say_field(b" of ", count as u64);
     }
 }
 

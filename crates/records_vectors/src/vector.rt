@@ -1,6 +1,7 @@
 // A vector: a record that is read, written again and compared; or a step or a verdict that is written.
 ghost use Prim.Native.Nat.{_≤_};
 ghost use lib.ListN.{length};
+ghost use Rattle.rules.specs.Step.{longestVerdict};
 use crate::bytes::Bytes;
 use crate::bytes::ROOM;
 use crate::bytes::first;
@@ -97,7 +98,7 @@ pub fn step(text: &[u8]) {
 }
 
 // The step record of a text and so many numbers from 1 on.
-pub fn step_with(text: &[u8], count: u8) {
+pub fn step_with(text: &[u8], count: usize) {
     let all = Bytes::none().with_text(text).with_numbers(count);
     let record = all.bytes;
     read_step(first(&record, all.len));
@@ -109,7 +110,7 @@ pub fn verdict(text: &[u8]) {
 }
 
 // The verdict record of a text, so many numbers from 1 on, and a text behind them.
-pub fn verdict_with(text: &[u8], count: u8, rest: &[u8]) {
+pub fn verdict_with(text: &[u8], count: usize, rest: &[u8]) {
     let all = Bytes::none()
         .with_text(text)
         .with_numbers(count)
@@ -182,9 +183,9 @@ pub fn write_verdict(v: Verdict, room: usize)
     say_left(w, &before, &out);
 }
 
-// What writing the verdict of a text and so many numbers into the first `room` of 600 bytes gives.
-pub fn write_long_verdict(text: &[u8], count: u8, room: usize)
-    requires { ⌜ room ≤ 600 ⌝ }
+// What writing the verdict of a text and so many numbers into the first `room` of `ROOM` bytes gives.
+pub fn write_long_verdict(text: &[u8], count: usize, room: usize)
+    requires { ⌜ room ≤ longestVerdict ⌝ }
 {
     let all = Bytes::none().with_text(text).with_numbers(count);
     let record = all.bytes;

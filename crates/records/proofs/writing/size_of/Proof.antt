@@ -4,6 +4,7 @@ use mathlib.Core.Path.{_≡_}
 use Prim.Native.Nat.{_+_, _-_, _*_, _≤_}
 use native.Mathlib.Omega.{arith}
 use lib.ListN.{length, getD, take, drop}
+use Rattle.rules.specs.Limits.{limits}
 use Rattle.records.specs.Format.{inner, bytesOf}
 use Rattle.records.specs.Found.{isNarrow}
 use Rattle.records.proofs.Places.{rest-cons, rest-none, all-at}
@@ -12,13 +13,13 @@ use Rattle.records.proofs.writing.size_of.Statement.{statement}
 use Rattle.records.proofs.writing.size_of.Tie as tie
 
 abbrev Inv-loop : tie.InvT-loop
-Inv-loop list fields n size₀ i₀ size i = (i ≤ n) × (size ≤ 515 * i) × (size + length (bytesOf (drop i (take n (fields .items))) list) ≡ length (bytesOf (take n (fields .items)) list))
+Inv-loop list fields n size₀ i₀ size i = (i ≤ n) × (size ≤ (3 + 8 * limits .places) * i) × (size + length (bytesOf (drop i (take n (fields .items))) list) ≡ length (bytesOf (take n (fields .items)) list))
 
 abbrev μ-loop : tie.MeasureT-loop
 μ-loop list fields n size₀ i₀ size i = n - i
 
 -- the field's value is short
-short : (c : tie.After-content-size Inv-loop μ-loop) → c .content-size .result ≤ 512
+short : (c : tie.After-content-size Inv-loop μ-loop) → c .content-size .result ≤ 8 * limits .places
 short c =
     let a = c .before .before .before .before .before .args in
     let narrow = all-at isNarrow (a .t1 .items) (c .before .before .before .loop .i) (inner 0 0 0) (c .before .before .before .before .before .pre .0 .narrow) (omega arith) in

@@ -18,6 +18,12 @@ loop-holds c = omega arith
 add-n : tie.Need-add-n Inv-loop μ-loop
 add-n c = omega arith
 
+cast-high : tie.Need-cast-high Inv-loop μ-loop
+cast-high c = omega arith
+
+cast-low : tie.Need-cast-low Inv-loop μ-loop
+cast-low c = omega arith
+
 slice-aggregate-with-text : tie.Need-slice-aggregate-with-text Inv-loop μ-loop
 slice-aggregate-with-text c = omega arith
 
@@ -26,6 +32,9 @@ with-text-requires c κs = search needs
 
 with-byte-requires : tie.Need-with-byte-requires Inv-loop μ-loop
 with-byte-requires c κs = search needs
+
+with-byte-requires-2 : tie.Need-with-byte-requires-2 Inv-loop μ-loop
+with-byte-requires-2 c κs = search needs
 
 loop-less : tie.Need-loop-less Inv-loop μ-loop
 loop-less c = omega arith
@@ -44,9 +53,12 @@ with-numbers-spec =
     μ-loop
     loop-holds
     add-n
+    cast-high
+    cast-low
     slice-aggregate-with-text
     with-text-requires
     with-byte-requires
+    with-byte-requires-2
     loop-less
     loop-again
     returns)
