@@ -12,6 +12,7 @@ use lib.Seq.{length-take-le, take-all, drop-drop}
 use borrow.Author.Tests.{ltb-true}
 use types.Run.{OneOf}
 use denote.Enum.Declared.{tagOf, declared}
+use Rattle.rules.specs.Step.{longestVerdict}
 use Rattle.fields.specs.declared.Next.{Next}
 use Rattle.fields.specs.declared.Next.the-variants.{End, Torn, Record}
 use Rattle.fields.specs.Fields.{nextOf}
@@ -32,7 +33,7 @@ Left bs IsTorn = cut bs .rest ≡ bs
 Left bs Full = ⊥
 Left bs (Judged n k) = (3 ≤ n) × (n ≤ length bs) × (cut bs .rest ≡ cut (drop n bs) .rest)
 
-module _ (l : Ledger) (bs out : List ℕ) (room : 522 ≤ length out) where
+module _ (l : Ledger) (bs out : List ℕ) (room : longestVerdict ≤ length out) where
   left-record : (n : ℕ) → Found bs (Record n) → cut bs .rest ≡ cut (drop n bs) .rest → (b : Bool) → ltb (length out) (length (answerBytes l (take n bs))) ≡ b
       → Left bs (cond b (unchanged Full l out) (judgedWith l (take n bs) out) .answer .front)
   left-record n f e true long = let more = ltb-true (length out) (length (answerBytes l (take n bs))) long in absurd (omega (arith, more, answer-fits l (take n bs), room))
@@ -54,7 +55,7 @@ module _ (l : Ledger) (bs out : List ℕ) (room : 522 ≤ length out) where
 pub record Going (trace verdict : List ℕ) (read : ℕ) : Type 0 where
   pub within : read ≤ length trace
   pub same : cut trace .rest ≡ cut (drop read trace) .rest
-  pub room : 522 ≡ length verdict
+  pub room : longestVerdict ≡ length verdict
 
 -- One turn: the front of what is left was judged
 pub record Turn (trace verdict : List ℕ) (read : ℕ) (l : Ledger) (r : Stepped) (b : List ℕ) : Type 0 where
@@ -94,7 +95,7 @@ module _ {trace verdict : List ℕ} {read : ℕ} {l : Ledger} {r : Stepped} {b :
     pub read-within : read + n ≤ length trace
     read-within = omega (arith, known .1, as-many, t .going .within)
 
-    pub goes-again : 522 ≡ length b → Going trace b (read + n)
+    pub goes-again : longestVerdict ≡ length b → Going trace b (read + n)
     goes-again room = record {
       within = read-within;
       same = t .going .same ∙ known .2 ∙ ap (λ (bs : List ℕ). cut bs .rest) (drop-drop n read trace);

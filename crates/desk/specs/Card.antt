@@ -40,6 +40,10 @@ cardOf l time hold count es = cond (ltb (length es) count) es (entries time hold
 unfoldable pub answerOf : Ledger → ℕ → ℕ → ℕ → List Entry → CardAnswer
 answerOf l time hold count es = cond (ltb (length es) count) (record { code = 2; ledger = l }) (record { code = 0; ledger = after time hold l count es })
 
+-- how many entries a row by value has
+abbrev pub rowLimit : ℕ
+rowLimit = 64
+
 -- a row by value
 abbrev pub rowBy : CardAnswer → List Entry → RowFilled
 rowBy a es = record { code = a .code; ledger = a .ledger; entries = es }

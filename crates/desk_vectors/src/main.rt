@@ -211,7 +211,9 @@ fn misshapen(l: Ledger) {
 
 fn unsound(mut l: Ledger) -> Ledger {
     let mut objects = l.objects;
-    objects.occupancy = 3;
+    let mut words = objects.occupancy;
+    words[0] = 3;
+    objects.occupancy = words;
     l.objects = objects;
     l
 }
@@ -224,11 +226,14 @@ fn write_into(s: Sheet, room: usize, out: &mut [u8]) -> Write
     sheets::write_sheet(s, &mut out[0..room])
 }
 
-// Into the first `room` of 64 bytes; all 64 are shown.
+// Bytes that a sheet is written into, all of which are shown.
+const SHOWN: usize = 64;
+
+// Into the first `room` of them.
 fn write(s: Sheet, room: usize)
     requires { ⌜ room ≤ 64 ⌝ }
 {
-    let mut out = [BEFORE; 64];
+    let mut out = [BEFORE; SHOWN];
     say::sheet(s);
     say::field(b" in ", room as u64);
     say::write(write_into(s, room, &mut out));
@@ -239,10 +244,10 @@ fn written() {
     let good = sheet(1, 978, 11, 10);
     let bad = sheet(1, 978, 0, 10);
     write(good, 41);
-    write(good, 64);
+    write(good, SHOWN);
     write(good, 40);
     write(good, 0);
-    write(bad, 64);
+    write(bad, SHOWN);
     write(bad, 0);
 }
 
@@ -283,8 +288,8 @@ fn cards(l: Ledger) {
     card(l, 12, 0);
     card(l, 12, 3);
     card(l, 12, 4);
-    card(l, 12, 64);
-    card(l, 12, 65);
+    card(l, 12, desk::ROW);
+    card(l, 12, desk::ROW + 1);
     card(l, 10, 4);
 }
 

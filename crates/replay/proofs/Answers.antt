@@ -17,7 +17,7 @@ use Rattle.rules.specs.Limits.{limits}
 use Rattle.rules.specs.State.{State}
 use Rattle.rules.specs.Request.{Request}
 use Rattle.rules.specs.Sound.{sound}
-use Rattle.rules.specs.Step.{Reply, alone, effect, granted, reply, sizeOf, verdict}
+use Rattle.rules.specs.Step.{Reply, alone, effect, granted, reply, sizeOf, verdict, longestVerdict}
 use Rattle.rules.specs.Typed.{isPadded, objectsOf, padded, verdictOf}
 use Rattle.rules.proofs.Lists.{and-both, and-left, and-right, decide, true-false}
 use Rattle.rules.proofs.Typed.{padded-room, padded-said, padded-take}
@@ -110,15 +110,15 @@ laid-bytes s e q =
     ap (λ (v : Verdict). encodeVerdict (v .answer) (objectsOf (v .list))) (verdict-laid s e q) ∙ ap (encodeVerdict (r .answer)) (placed-list r formed)
 
 -- a verdict's record at the front of others is found whole
-pub verdict-next : (v : Verdict) (rest : List ℕ) → length (verdictBytes v) ≤ 522 → nextOf (verdictBytes v ++ rest) ≡ Record (length (verdictBytes v))
+pub verdict-next : (v : Verdict) (rest : List ℕ) → length (verdictBytes v) ≤ longestVerdict → nextOf (verdictBytes v ++ rest) ≡ Record (length (verdictBytes v))
 verdict-next v rest h =
     let value = bytesOf (verdictFields (v .answer)) (objectsOf (v .list)) in
     let long = length-field verdictTag value in
     next-field verdictTag value rest (omega (arith, h, long)) ∙ ap Record (sym long)
 
--- "The longest verdict is 522 bytes"
-pub answer-fits : (l : Ledger) (bytes : List ℕ) → length (answerBytes l bytes) ≤ 522
+-- "The longest verdict is longestVerdict bytes"
+pub answer-fits : (l : Ledger) (bytes : List ℕ) → length (answerBytes l bytes) ≤ longestVerdict
 answer-fits l bytes = fits (judged l (decodeStep bytes) .verdict) (can-answer l (decodeStep bytes))
   where
-    fits : (v : Verdict) → canAnswer v ≡ true → length (verdictBytes v) ≤ 522
+    fits : (v : Verdict) → canAnswer v ≡ true → length (verdictBytes v) ≤ longestVerdict
     fits v e = verdict-round-trip .longest (v .answer) (objectsOf (v .list)) (and-right (isPadded (v .list .count) (v .list .objects)) _ e)

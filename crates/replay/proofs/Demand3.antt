@@ -14,8 +14,10 @@ use Rattle.rules.specs.Limits.{limits}
 use Rattle.rules.specs.State.{State, fresh}
 use Rattle.rules.specs.Sound.{sound}
 use Rattle.rules.specs.Request.{Request, Ask}
-use Rattle.rules.specs.Step.{size, reply, next}
+use Rattle.rules.specs.Step.{Reply, size, reply, next}
+use Rattle.rules.specs.Raised.{repliesFrom}
 use Rattle.rules.proofs.Lists.{decide}
+use Rattle.rules.proofs.Raised.{old-verdicts-kept}
 use Rattle.rules.proofs.Soundness.{sound-fresh, next-sound}
 use Rattle.records.specs.Steps.{decodeStep}
 use Rattle.records.specs.Verdicts.{encodeVerdict}
@@ -25,7 +27,7 @@ use Rattle.ledger.specs.Demand3.{verdictSize, keptAfter, ledgerAfter}
 use Rattle.ledger.proofs.Demand3.{next-laid, delivered}
 use Rattle.replay.specs.Front.{answerTo, answerBytes}
 use Rattle.replay.specs.Replay.{cut, tell, replayOf}
-use Rattle.replay.specs.Demand3.{asking, asksFrom, asksOf, repliesFrom, RunDelivered}
+use Rattle.replay.specs.Demand3.{asking, asksFrom, asksOf, bytesOf, RunDelivered}
 use Rattle.replay.proofs.Answers.{answer-length, laid-bytes, encoded-size}
 
 -- A record on any ledger: its verdict has room, or the ledger stays
@@ -70,8 +72,11 @@ told-asks l room (r ∷ rs) = by (ltb room (length (answerBytes l r))) (told-ask
     by false e = ap (λ (qs : List Request). decodeStep r ∷ qs) e
 
 -- What they are told, from the layout of a sound state on
-told-replies : (s : State) → sound limits s ≡ true → (room : ℕ) (rs : List (List ℕ)) → tell (lay s) room rs .verdicts ≡ repliesFrom s (asksFrom (lay s) room rs)
-unfolding tell asksFrom repliesFrom
+abbrev told : State → List Ask → List (List ℕ)
+told s asks = bytesOf (repliesFrom limits s asks) asks
+
+told-replies : (s : State) → sound limits s ≡ true → (room : ℕ) (rs : List (List ℕ)) → tell (lay s) room rs .verdicts ≡ told s (asksFrom (lay s) room rs)
+unfolding tell asksFrom repliesFrom bytesOf
 told-replies s e room [] = refl
 told-replies s e room (r ∷ rs) = by (room-known (lay s) r room) (told-replies after (next-sound limits (sound limits) s (asking r room) e) (room - length v) rs)
   where
@@ -87,8 +92,8 @@ told-replies s e room (r ∷ rs) = by (room-known (lay s) r room) (told-replies 
     long : length v ≡ size (reply limits (sound limits) s (decodeStep r))
     long = ap length same ∙ encoded-size (reply limits (sound limits) s (decodeStep r) .answer) (reply limits (sound limits) s (decodeStep r) .list)
 
-    by : (room < length v) ⊎ (length v ≤ room) → tell (lay after) (room - length v) rs .verdicts ≡ repliesFrom after (asksFrom (lay after) (room - length v) rs)
-        → tell (lay s) room (r ∷ rs) .verdicts ≡ repliesFrom s (asksFrom (lay s) room (r ∷ rs))
+    by : (room < length v) ⊎ (length v ≤ room) → tell (lay after) (room - length v) rs .verdicts ≡ told after (asksFrom (lay after) (room - length v) rs)
+        → tell (lay s) room (r ∷ rs) .verdicts ≡ told s (asksFrom (lay s) room (r ∷ rs))
     by (inl h) f = rw (lt-ltb room (length v) h, lt-leb (size (reply limits (sound limits) s (decodeStep r))) room (omega (arith, long, h)))
     by (inr h) f =
         let moved : answerTo (lay s) r .ledger ≡ lay after = sym (kept-fits (lay s) r room h) ∙ next-laid s e (asking r room) in
@@ -98,9 +103,12 @@ pub run-delivered : (trace out : List ℕ) → RunDelivered trace out
 unfolding replayOf
 run-delivered trace out =
     let rs = cut trace .records in
+    let asks = asksOf trace out in
+    let written = ap (λ (vs : List (List ℕ)). over (flatten vs) out) (told-replies fresh (sound-fresh limits) (length out) rs) in
     record {
       asked = told-asks (lay fresh) (length out) rs;
       kept = told-ledger (lay fresh) (length out) rs;
-      delivered = λ k. delivered (take k (asksOf trace out));
-      output = ap (λ (vs : List (List ℕ)). over (flatten vs) out) (told-replies fresh (sound-fresh limits) (length out) rs);
+      delivered = λ k. delivered (take k asks);
+      output = written;
+      old = λ e. written ∙ ap (λ (ws : List Reply). over (flatten (bytesOf ws asks)) out) (old-verdicts-kept .here .replies asks e);
     }

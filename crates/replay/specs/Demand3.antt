@@ -2,17 +2,17 @@
 -- specs/Demand3.antt; crate rules, specs/Demand3.antt) is a claim about runs. Proved in proofs/Demand3.antt.
 -- Assumes nothing.
 use mathlib.Core.Path.{_≡_}
-use mathlib.Core.Bool.{cond}
+use mathlib.Core.Bool.{true, cond}
 use mathlib.Core.List.{List, [], _∷_, map, flatten}
 use Prim.Native.Nat.{ℕ, _-_}
 use lib.Dec.{leb, ltb}
 use lib.ListN.{length, take}
 use Rattle.fields.specs.Fields.{over}
-use Rattle.rules.specs.Limits.{limits}
-use Rattle.rules.specs.State.{State, fresh}
-use Rattle.rules.specs.Sound.{sound}
+use Rattle.rules.specs.Limits.{Limits, limits, firstLimits}
+use Rattle.rules.specs.State.{fresh, freshIn}
 use Rattle.rules.specs.Request.{Ask}
-use Rattle.rules.specs.Step.{size, reply, next}
+use Rattle.rules.specs.Step.{Reply, size}
+use Rattle.rules.specs.Raised.{neverMet, repliesFrom}
 use Rattle.records.specs.Steps.{decodeStep}
 use Rattle.records.specs.Verdicts.{encodeVerdict}
 use Rattle.ledger.specs.declared.Ledger.{Ledger}
@@ -34,13 +34,15 @@ asksFrom l room (r ∷ rs) =
 abbrev pub asksOf : List ℕ → List ℕ → List Ask
 asksOf trace out = asksFrom (lay fresh) (length out) (cut trace .records)
 
--- the bytes of the replies that the rules give, where they fit
-unfoldable pub repliesFrom : State → List Ask → List (List ℕ)
-repliesFrom s [] = []
-repliesFrom s (a ∷ asks) =
-    cond (leb (size (reply limits (sound limits) s (a .request))) (a .room))
-    (encodeVerdict (reply limits (sound limits) s (a .request) .answer) (reply limits (sound limits) s (a .request) .list) ∷ repliesFrom (next limits (sound limits) s a) asks)
-    (repliesFrom (next limits (sound limits) s a) asks)
+-- the bytes of the replies to these asks, of those that fit
+unfoldable pub bytesOf : List Reply → List Ask → List (List ℕ)
+bytesOf [] asks = []
+bytesOf (r ∷ rs) [] = []
+bytesOf (r ∷ rs) (a ∷ asks) = cond (leb (size r) (a .room)) (encodeVerdict (r .answer) (r .list) ∷ bytesOf rs asks) (bytesOf rs asks)
+
+-- what the rules write over the output at these limits, from fresh on
+abbrev pub toldWithin : Limits → List ℕ → List Ask → List ℕ
+toldWithin L out asks = over (flatten (bytesOf (repliesFrom L (freshIn L) asks) asks)) out
 
 pub record RunDelivered (trace out : List ℕ) : Type 0 where
   -- what is asked is what the records say, in their order
@@ -50,4 +52,6 @@ pub record RunDelivered (trace out : List ℕ) : Type 0 where
   -- before each record and at the end demand 3 holds, whole
   pub delivered : (k : ℕ) → Delivered (take k (asksOf trace out))
   -- the output is the replies of the rules, one behind the other
-  pub output : replayOf (lay fresh) trace out .buffer ≡ over (flatten (repliesFrom fresh (asksOf trace out))) out
+  pub output : replayOf (lay fresh) trace out .buffer ≡ toldWithin limits out (asksOf trace out)
+  -- "A trace that never met an old limit keeps its verdicts" (document 02, request 4): every byte is what the rules gave within document 01's own limits
+  pub old : neverMet firstLimits (freshIn firstLimits) (asksOf trace out) ≡ true → replayOf (lay fresh) trace out .buffer ≡ toldWithin firstLimits out (asksOf trace out)

@@ -57,7 +57,7 @@ use Rattle.ledger.specs.declared.Ledger.{Ledger}
 use Rattle.desk.specs.declared.Entry.{Entry}
 use Rattle.desk.specs.declared.CardAnswer.{CardAnswer}
 use Rattle.desk.specs.declared.RowFilled.{RowFilled}
-use Rattle.desk.specs.Card.{cardOf, answerOf, rowOf, rowBy}
+use Rattle.desk.specs.Card.{cardOf, answerOf, rowOf, rowBy, rowLimit}
 use Rattle.desk.proofs.Locals.{Blocks, locals, Slot, room, has, slots, allocates, frees-slots, var, field-of, lets}
 use Rattle.desk.proofs.Structs.{Of, val, Holds, tells, joins, parts, typed, has-struct, has-word, told}
 use Rattle.desk.proofs.Values.{Ledgers, Entries, Answers, Rows}
@@ -75,7 +75,7 @@ stayed = (stay-dropped _ _, (stay-dropped _ _, (stay-dropped _ _, (stay-dropped 
 
 -- the array, its machine value, and what whoever holds it knows of that value
 abbrev Row : RattleType
-Row = Array (Of Entries) 64
+Row = Array (Of Entries) rowLimit
 
 abbrev row-val : List Entry → Val
 row-val es = arrayVal (map (val Entries) es)
@@ -84,10 +84,10 @@ abbrev RowIs : List Entry → Type 0
 RowIs es = Is Row es (row-val es ∷ [])
 
 row-tells : Tells Row (Is Row) (λ es. row-val es ∷ [])
-row-tells = array-tells (Of Entries) (λ e. val Entries e ∷ []) (tells Entries) 64
+row-tells = array-tells (Of Entries) (λ e. val Entries e ∷ []) (tells Entries) rowLimit
 
 abbrev array : Ty
-array = tyArray (lone (Of Entries .mir)) 64
+array = tyArray (lone (Of Entries .mir)) rowLimit
 
 -- the result: its array field is stated over the entries' tuples
 field-val : (zs : List Entry) → row-val zs ≡ arrayVal (map (LL.tuple-val (Entries .type) (Entries .laws)) (map (Entries .type .to) zs))
@@ -128,9 +128,9 @@ module _ {M : Type 1} (𝓤 : URA M) (H : Heap 𝓤) (A : Atoms 𝓤) (W : Given
 
   -- ---- the array
   row-typed : (zs : List Entry) → RowIs zs → T (hasTy array (row-val zs)) × WT (row-val zs)
-  row-typed zs z-is = array-lawful 𝓤 H A W (Of Entries) (LL.lawful (Entries .type) (Entries .laws) 𝓤 H A W) 64 .typed zs _ z-is .0
+  row-typed zs z-is = array-lawful 𝓤 H A W (Of Entries) (LL.lawful (Entries .type) (Entries .laws) 𝓤 H A W) rowLimit .typed zs _ z-is .0
 
-  long : length es ≡ 64
+  long : length es ≡ rowLimit
   long = es-is .1 .0 .1
 
   has-room : Room (Of Entries) (length es)
@@ -140,15 +140,15 @@ module _ {M : Type 1} (𝓤 : URA M) (H : Heap 𝓤) (A : Atoms 𝓤) (W : Given
   unfolding partOf
   apart b =
       qed W (‵ (fat fullShare array b 0 (row-val es)) ∷ []) ∵ use1 W (‵ (cellAt fullShare (Row .mir) (row-val es ∷ []) b 0)) (W .laws .at-raw fullShare array b 0 (row-val es)) $
-      owned ! Row (Is Row) (array-makes 𝓤 H A W (Of Entries) (LL.makes (Entries .type) (Entries .plain) 𝓤 H A) 64) es _ es-is $ move ! (1 ∷ 0 ∷ []) $ fjoin ! $
+      owned ! Row (Is Row) (array-makes 𝓤 H A W (Of Entries) (LL.makes (Entries .type) (Entries .plain) 𝓤 H A) rowLimit) es _ es-is $ move ! (1 ∷ 0 ∷ []) $ fjoin ! $
       fpack ! (List Val) (λ us. fsep (cellAt fullShare (Row .mir) us b 0) (Row .own es us)) (row-val es ∷ []) $
-      use1 W (‵ (arr-parts (shares (Of Entries)) 64 .part fullShare es b 0)) (array-apart 𝓤 H A W (Of Entries) fullShare tt 64 es b 0) $ fsplit ! $ drop ! $ by ! (whole-in 𝓤 H A W (Of Entries) es b 0)
+      use1 W (‵ (arr-parts (shares (Of Entries)) rowLimit .part fullShare es b 0)) (array-apart 𝓤 H A W (Of Entries) fullShare tt rowLimit es b 0) $ fsplit ! $ drop ! $ by ! (whole-in 𝓤 H A W (Of Entries) es b 0)
 
-  together : (zs : List Entry) → length zs ≡ 64 → (b : ℕ) → ent 𝓤 (sem 𝓤 H A (cells (in-memory (Of Entries)) zs b 0)) (guard 𝓤 (RowIs zs) (sem 𝓤 H A (fat fullShare array b 0 (row-val zs))))
+  together : (zs : List Entry) → length zs ≡ rowLimit → (b : ℕ) → ent 𝓤 (sem 𝓤 H A (cells (in-memory (Of Entries)) zs b 0)) (guard 𝓤 (RowIs zs) (sem 𝓤 H A (fat fullShare array b 0 (row-val zs))))
   unfolding partOf
   together zs z-long b =
-      qed W (‵ (cells (in-memory (Of Entries)) zs b 0) ∷ []) ∵ use1 W (‵ (row (Of Entries) fullShare zs b 0)) (whole-out 𝓤 H A W (Of Entries) zs b 0) $ feqI ! ℕ (length zs) 64 z-long $ fjoin ! $
-      use1 W (‵ (partAt Row fullShare zs b 0)) (array-whole 𝓤 H A W (Of Entries) fullShare 64 zs b 0) $ fpick ! (λ vs. fsplit ! $ move ! (1 ∷ []) $
+      qed W (‵ (cells (in-memory (Of Entries)) zs b 0) ∷ []) ∵ use1 W (‵ (row (Of Entries) fullShare zs b 0)) (whole-out 𝓤 H A W (Of Entries) zs b 0) $ feqI ! ℕ (length zs) rowLimit z-long $ fjoin ! $
+      use1 W (‵ (partAt Row fullShare zs b 0)) (array-whole 𝓤 H A W (Of Entries) fullShare rowLimit zs b 0) $ fpick ! (λ vs. fsplit ! $ move ! (1 ∷ []) $
       facts ! Row (Is Row) (shows 𝓤 H A Row) zs vs (λ z-is. rewrite ! 0 (λ (us : List Val). ‵ (cellAt fullShare (Row .mir) us b 0)) (row-tells zs vs z-is) refl $
       use1 W (‵ (fat fullShare array b 0 (row-val zs))) (W .laws .raw-at fullShare array b 0 (row-val zs)) $ check ! (subst (Is Row zs) (row-tells zs vs z-is) z-is) $ done !))
 
@@ -249,7 +249,7 @@ module _ {M : Type 1} (𝓤 : URA M) (H : Heap 𝓤) (A : Atoms 𝓤) (W : Given
 module _ {M : Type 1} (𝓤 : URA M) (H : Heap 𝓤) (A : Atoms 𝓤) (W : Given 𝓤 H A) (mem : Memory → SProp 𝓤) (run : Routine → Fun 𝓤) (𝓣 : Tables 𝓤 H) (known : Triple 𝓤 (𝓣 .C fill-card-def.name) (FillCard 𝓤 H A mem run)) where
   fill-row-meets : Meets 𝓤 H A f.signature (WpFn 𝓤 H (𝓣 .C) (𝓣 .Λ) code.function) (f.spec 𝓤 H A mem run)
   fill-row-meets = walk-meets 𝓤 H A f.ended stayed W
-      (goes-dropped 𝓤 H A W 0 (plain (λ _. Of Ledgers)) yes (λ κs x f. refl), (goes-dropped 𝓤 H A W 0 (plain (λ _. u64)) yes (λ κs x f. refl), (goes-dropped 𝓤 H A W 0 (plain (λ _. u64)) yes (λ κs x f. refl), (goes-dropped 𝓤 H A W 0 (plain (λ _. usize)) yes (λ κs x f. refl), (goes-dropped 𝓤 H A W 0 (ArrayOf (plain (λ _. Of Entries)) (λ _. tt) 64) yes (λ κs x f. refl), tt)))))
+      (goes-dropped 𝓤 H A W 0 (plain (λ _. Of Ledgers)) yes (λ κs x f. refl), (goes-dropped 𝓤 H A W 0 (plain (λ _. u64)) yes (λ κs x f. refl), (goes-dropped 𝓤 H A W 0 (plain (λ _. u64)) yes (λ κs x f. refl), (goes-dropped 𝓤 H A W 0 (plain (λ _. usize)) yes (λ κs x f. refl), (goes-dropped 𝓤 H A W 0 (ArrayOf (plain (λ _. Of Entries)) (λ _. tt) rowLimit) yes (λ κs x f. refl), tt)))))
       (f.clauses 𝓤 H A mem run) (WpFn 𝓤 H (𝓣 .C) (𝓣 .Λ) code.function) (WpFn-mono 𝓤 H (W .laws) 𝓣 code.function)
       (walked 𝓤 H A f.ended stayed (f.clauses 𝓤 H A mem run) (WpFn 𝓤 H (𝓣 .C) (𝓣 .Λ) code.function)
       (λ κs. ((λ l. val Ledgers l ∷ []), (uint-vals w64, (uint-vals w64, (uint-vals w64, ((λ zs. row-val zs ∷ []), tt))))))
