@@ -31,53 +31,55 @@ uint64_t cuudhaqil_write_name(uint64_t kind, uint64_t number, uint8_t *out, size
  * 0: nothing is left. 1: the record is torn (fewer than 3 bytes, or fewer than it claims). Else its length. */
 uint64_t cuudhaqil_next_record(const uint8_t *trace, size_t trace_len);
 
-/* A step is eleven numbers with sixteen places for COMMIT's list beside them:
+/* A step is eleven numbers with 64 places for COMMIT's list beside them:
  * numbers[0] kind: 0 FENCE, 1 PUT, 2 COMMIT, 3 COMPACT, 4 HOLD, 5 RENEW, 6 RELEASE, 7 LIST, 8 LOOK, 9 COLLECT;
  * [1] time, [2] role (0 writer, 1 compactor), [3] epoch, [4] slot, [5] object, [6] currency, [7] hold, [8] manifest,
  * [9] expiry, [10] how long the list is. */
 
 /* Reads all the bytes as one step record.
- * 0: read; the eleven numbers, 0 for what the kind does not have, and the list's sixteen places, 0 beyond its end.
+ * 0: read; the eleven numbers, 0 for what the kind does not have, and the list's 64 places, 0 beyond its end.
  * 2: no step record; both slices stay.
- * 3: numbers has fewer than 11 elements or list fewer than 16; this goes first, and both stay.
+ * 3: numbers has fewer than 11 elements or list fewer than 64; this goes first, and both stay.
  * Elements beyond these stay. */
 uint64_t cuudhaqil_read_step(const uint8_t *record, size_t record_len, uint64_t *numbers, size_t numbers_len,
                              uint64_t *list, size_t list_len);
 
 /* Writes a step's record at the start of out. Numbers that the kind does not have play no part, nor do elements beyond.
- * 3: numbers has fewer than 11 elements or list fewer than 16; this goes first, and out stays.
+ * 3: numbers has fewer than 11 elements or list fewer than 64; this goes first, and out stays.
  * 2: no reader takes such a step (a place of the list behind its end that is not 0 is one); out stays.
  * 0: out is too short; out stays.
- * Else as many bytes were written, and those beyond them stay. */
+ * Else as many bytes were written, and those beyond them stay. 551 bytes hold any. */
 uint64_t cuudhaqil_write_step(const uint64_t *numbers, size_t numbers_len, const uint64_t *list, size_t list_len,
                               uint8_t *out, size_t out_len);
 
-/* A verdict is three numbers with 64 places for its list beside them:
+/* A verdict is three numbers with 256 places for its list beside them:
  * numbers[0] case: 0 refused with the row, 1 accepted with the code alone, 2 FENCE with the epoch, 3 LIST with the
  * manifest, 4 LOOK with the object, 5 COLLECT; [1] that value, else 0; [2] how long the list is. */
 
-/* Reads all the bytes as one verdict record; answers as cuudhaqil_read_step does, with 3 and 64 elements. */
+/* Reads all the bytes as one verdict record; answers as cuudhaqil_read_step does, with 3 and 256 elements. */
 uint64_t cuudhaqil_read_verdict(const uint8_t *record, size_t record_len, uint64_t *numbers, size_t numbers_len,
                                 uint64_t *list, size_t list_len);
 
-/* Writes a verdict's record; answers as cuudhaqil_write_step does, with 3 and 64 elements. 522 bytes hold any. */
+/* Writes a verdict's record; answers as cuudhaqil_write_step does, with 3 and 256 elements. 2,058 bytes hold any. */
 uint64_t cuudhaqil_write_verdict(const uint64_t *numbers, size_t numbers_len, const uint64_t *list, size_t list_len,
                                  uint8_t *out, size_t out_len);
 
-/* One step on a ledger. A ledger is 529 numbers, and any numbers are one: clock, the highest object number ever collected,
- * the occupancy word, 64 places of five (number, role, epoch, currency, named), the count of manifests and nine places of
- * twenty (number, writer epoch, compactor epoch, count, sixteen names), the count of holds and eight places of three
- * (number, manifest, expiry). Of a role and a mark it is told whether they are 0, of a currency the last 16 bits. */
+/* One step on a ledger. A ledger is 1,924 numbers, and any numbers are one: clock, the highest object number ever
+ * collected, the four occupancy words (bit i of word k, both counted from 0, is place 64 k + i), 256 places of five
+ * (number, role, epoch, currency, named), the count of manifests and nine places of 68 (number, writer epoch, compactor
+ * epoch, count, 64 names), the count of holds and eight places of three (number, manifest, expiry). Of a role and a mark
+ * it is told whether they are 0, of a currency the last 16 bits. */
 
-/* Lays the fresh ledger over the first 529 elements; those beyond stay.
+/* Lays the fresh ledger over the first 1,924 elements; those beyond stay.
  * 0: done. 3: there are fewer; the slice stays. */
 uint64_t cuudhaqil_fresh(uint64_t *ledger, size_t ledger_len);
 
-/* The step (eleven numbers and sixteen places, as cuudhaqil_read_step gives them) on the ledger.
- * 0: ledger is the next ledger, verdict its three numbers and objects the 64 places of its list, as cuudhaqil_read_verdict
- *    gives them; a refusal leaves the ledger's numbers as they were read. Elements beyond these stay.
+/* The step (eleven numbers and 64 places, as cuudhaqil_read_step gives them) on the ledger.
+ * 0: ledger is the next ledger, verdict its three numbers and objects the 256 places of its list, as
+ *    cuudhaqil_read_verdict gives them; a refusal leaves the ledger's numbers as they were read. Elements beyond these
+ *    stay.
  * 2: the numbers say no kind, a role above 1 or a currency of more than 16 bits; all stay.
- * 3: a slice is too short (529, 11, 16, 3, 64); this goes first, and all stay. */
+ * 3: a slice is too short (ledger 1,924, numbers 11, list 64, verdict 3, objects 256); this goes first, and all stay. */
 uint64_t cuudhaqil_step(uint64_t *ledger, size_t ledger_len, const uint64_t *numbers, size_t numbers_len,
                         const uint64_t *list, size_t list_len, uint64_t *verdict, size_t verdict_len, uint64_t *objects,
                         size_t objects_len);
@@ -90,9 +92,9 @@ uint64_t cuudhaqil_step(uint64_t *ledger, size_t ledger_len, const uint64_t *num
 uint64_t cuudhaqil_run(const uint8_t *trace, size_t trace_len, uint8_t *out, size_t out_len, uint64_t *counts,
                        size_t counts_len);
 
-/* The same on the ledger that the 529 numbers say, as in cuudhaqil_step; these are then the next ledger's. On a ledger
+/* The same on the ledger that the 1,924 numbers say, as in cuudhaqil_step; these are then the next ledger's. On a ledger
  * that is not sound every record is refused with 1.
- * 3: ledger has fewer than 529 elements or counts fewer than 2; this goes first, and all stays. */
+ * 3: ledger has fewer than 1,924 elements or counts fewer than 2; this goes first, and all stays. */
 uint64_t cuudhaqil_run_on(uint64_t *ledger, size_t ledger_len, const uint8_t *trace, size_t trace_len, uint8_t *out,
                           size_t out_len, uint64_t *counts, size_t counts_len);
 

@@ -1,5 +1,5 @@
 /* The sale desk: the calls of target/staticlib/libdesk_exports.a (crates/desk_exports), beside those of cuudhaqil.h and
- * under the same terms. A ledger is its 529 numbers, as cuudhaqil_fresh and cuudhaqil_step of cuudhaqil.h give them. A
+ * under the same terms. A ledger is its 1,924 numbers, as cuudhaqil_fresh and cuudhaqil_step of cuudhaqil.h give them. A
  * currency above 65,535 is taken as 65,535, which no sheet has. */
 #ifndef CUUDHAQIL_DESK_H
 #define CUUDHAQIL_DESK_H
@@ -31,7 +31,7 @@ uint64_t cuudhaqil_write_sheet(const uint64_t *numbers, size_t numbers_len, uint
  *    refused, with 2 for a malformed sheet or a fare above 1,000,000, else with the look's number, else with 30 for a
  *    sheet of another object or currency; the charge is 0, and the ledger's numbers are as they were read. Elements
  *    beyond these stay.
- * 3: ledger has fewer than 529 elements or sale fewer than 2; this goes first, and all stay. */
+ * 3: ledger has fewer than 1,924 elements or sale fewer than 2; this goes first, and all stay. */
 uint64_t cuudhaqil_sell(uint64_t *ledger, size_t ledger_len, uint64_t time, const uint8_t *sheet, size_t sheet_len,
                         uint64_t currency, uint64_t hold, uint64_t fare, uint64_t *sale, size_t sale_len);
 
@@ -40,7 +40,7 @@ uint64_t cuudhaqil_sell(uint64_t *ledger, size_t ledger_len, uint64_t time, cons
  * 0: each of these entries has its look's code and object (0 if refused), its currency stays, and ledger is the one after
  *    the last look. Entries beyond the count stay.
  * 2: count is above the whole entries that the card has; all stay.
- * 3: ledger has fewer than 529 elements or card more than 64 whole entries; this goes first, and all stay. */
+ * 3: ledger has fewer than 1,924 elements or card more than 64 whole entries; this goes first, and all stay. */
 uint64_t cuudhaqil_fill_card(uint64_t *ledger, size_t ledger_len, uint64_t time, uint64_t hold, uint64_t count,
                              uint64_t *card, size_t card_len);
 

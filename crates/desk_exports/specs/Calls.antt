@@ -16,7 +16,7 @@ use Rattle.desk.specs.declared.SaleAnswer.{SaleAnswer}
 use Rattle.desk.specs.declared.Entry.{Entry}
 use Rattle.desk.specs.declared.RowFilled.{RowFilled}
 use Rattle.desk.specs.Sale.{saleCode, saleOf}
-use Rattle.desk.specs.Card.{rowOf}
+use Rattle.desk.specs.Card.{rowOf, rowLimit}
 use Rattle.exports.specs.Names.{Call}
 use Rattle.exports.specs.Codec.{written}
 use Rattle.exports.specs.Ledgers.{ledgerNumbers, ledgerFrom, ledgerSize}
@@ -72,10 +72,6 @@ module _ (ledger : List ℕ) (time : ℕ) (sheet : List ℕ) (currency hold fare
       (told (saleOf (ledgerFrom ledger) time sheet (narrow currency) hold fare)))
 
 -- Cards: currency, code, object for each entry
-
--- how many entries a card has at most
-abbrev pub rowLimit : ℕ
-rowLimit = 64
 
 abbrev pub blank : ℕ → Entry
 blank c = record { currency = c; code = 0; object = 0 }

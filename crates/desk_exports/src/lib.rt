@@ -2,8 +2,9 @@
 ghost use mathlib.Core.Path.{_≡_};
 ghost use Prim.Native.Nat.{_*_, _≤_};
 ghost use lib.ListN.{length};
+ghost use Rattle.desk.specs.Card.{rowLimit};
 ghost use Rattle.desk.specs.Sale.{saleCode};
-ghost use Rattle.desk_exports.specs.Calls.{narrow, chargeIn, readSheet, writeSheet, sell, rowLimit, rowFrom, putFilled, fillCard};
+ghost use Rattle.desk_exports.specs.Calls.{narrow, chargeIn, readSheet, writeSheet, sell, rowFrom, putFilled, fillCard};
 use desk::Entry;
 use desk::ROW;
 use desk::Sale;

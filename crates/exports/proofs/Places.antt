@@ -67,44 +67,37 @@ flat-done f size i l out h fits inv = rw (flat-end f l i h, append-nil, take-all
 part-at : (p q : List ℕ) (a k : ℕ) (ys : List ℕ) → length p ≡ a → take a (p ++ q) ++ (ys ++ drop k (drop a (p ++ q))) ≡ p ++ (ys ++ drop k q)
 part-at p q a k ys h = rw (take-at p q a h, drop-at p q a h)
 
--- a count behind others, and then its part
-counted : (p q : List ℕ) (n a b k : ℕ) (ys : List ℕ) → length p ≡ a → a + 1 ≡ b → 0 < length q → take b (set (p ++ q) a n) ++ (ys ++ drop k (drop b (set (p ++ q) a n))) ≡ p ++ (n ∷ (ys ++ drop k (drop 1 q)))
-counted p [] n a b k ys h g some = absurd (omega arith)
-counted p (y ∷ q) n a b k ys h g some =
-    let same : set (p ++ y ∷ q) a n ≡ (p ++ n ∷ []) ++ q = set-at p y q n a h ∙ sym (append-assoc p (n ∷ []) q) in
-    let long : length (p ++ n ∷ []) ≡ b = length-append p (n ∷ []) ∙ omega (arith, h, g) in
-    ap (λ (l : List ℕ). take b l ++ (ys ++ drop k (drop b l))) same ∙ part-at (p ++ n ∷ []) q b k ys long ∙ append-assoc p (n ∷ []) (ys ++ drop k q)
+-- what lies there now: the k numbers p, and then what was there
+pub record Lying (out p : List ℕ) (k : ℕ) (now : List ℕ) : Type 0 where
+  pub same : now ≡ p ++ drop k out
+  pub many : length p ≡ k
+  pub room : k ≤ length out
 
--- the numbers of a ledger, part by part
-laid : (out xs ys zs : List ℕ) (a b c n m : ℕ) → length out ≡ 529 → length xs ≡ 320 → length ys ≡ 180 → length zs ≡ 24 →
-    let o1 = set (set (set out 0 a) 1 b) 2 c in
-    let o2 = take 3 o1 ++ (xs ++ drop 320 (drop 3 o1)) in
-    let o3 = set o2 323 n in
-    let o4 = take 324 o3 ++ (ys ++ drop 180 (drop 324 o3)) in
-    let o5 = set o4 504 m in
-    take 505 o5 ++ (zs ++ drop 24 (drop 505 o5)) ≡ a ∷ b ∷ c ∷ (xs ++ (n ∷ (ys ++ (m ∷ zs))))
-laid [] xs ys zs a b c n m h hx hy hz = absurd (omega arith)
-laid (u ∷ []) xs ys zs a b c n m h hx hy hz = absurd (omega arith)
-laid (u ∷ v ∷ []) xs ys zs a b c n m h hx hy hz = absurd (omega arith)
-laid (u ∷ v ∷ w ∷ out) xs ys zs a b c n m h hx hy hz =
-    let p : List ℕ = a ∷ b ∷ c ∷ xs in
-    let q : List ℕ = drop 320 out in
-    let r : List ℕ = drop 180 (drop 1 q) in
-    let long-q : length q ≡ 206 = length-drop 320 out ∙ omega (arith, h) in
-    let long-r : length r ≡ 25 = length-drop 180 (drop 1 q) ∙ omega (arith, length-drop 1 q, long-q) in
-    let first = counted p q n 323 324 180 ys (omega (arith, hx)) refl (omega (arith, long-q)) ∙ sym (append-assoc p (n ∷ ys) r) in
-    let long : length (p ++ n ∷ ys) ≡ 504 = length-append p (n ∷ ys) ∙ omega (arith, hx, hy) in
-    let none : drop 24 (drop 1 r) ≡ [] = drop-of-length-le (drop 1 r) {i = 24} (omega (arith, length-drop 1 r, long-r)) in
-    ap (λ (l : List ℕ). take 505 (set l 504 m) ++ (zs ++ drop 24 (drop 505 (set l 504 m)))) first ∙ counted (p ++ n ∷ ys) r m 504 505 24 zs long refl (omega (arith, long-r)) ∙ rw (none, append-nil) (append-assoc p (n ∷ ys) (m ∷ zs))
+pub lying-long : {out p now : List ℕ} {k : ℕ} → Lying out p k now → length now ≡ length out
+lying-long {out} {p} {now} {k} l = ap length (l .same) ∙ length-append p (drop k out) ∙ omega (arith, length-drop k out, l .many, l .room)
 
-pub laid-as : (out xs ys zs xs′ ys′ zs′ : List ℕ) (a b c n m : ℕ) → length out ≡ 529 → length xs ≡ 320 → length ys ≡ 180 → length zs ≡ 24 → xs ≡ xs′ → ys ≡ ys′ → zs ≡ zs′ →
-    let o1 = set (set (set out 0 a) 1 b) 2 c in
-    let o2 = take 3 o1 ++ (xs ++ drop 320 (drop 3 o1)) in
-    let o3 = set o2 323 n in
-    let o4 = take 324 o3 ++ (ys ++ drop 180 (drop 324 o3)) in
-    let o5 = set o4 504 m in
-    take 505 o5 ++ (zs ++ drop 24 (drop 505 o5)) ≡ a ∷ b ∷ c ∷ (xs′ ++ (n ∷ (ys′ ++ (m ∷ zs′))))
-laid-as out xs ys zs xs′ ys′ zs′ a b c n m h hx hy hz ex ey ez = laid out xs ys zs a b c n m h hx hy hz ∙ rw (ex, ey, ez)
+pub lying-none : {out : List ℕ} → Lying out [] 0 out
+lying-none = record { same = refl; many = refl; room = omega arith }
+
+-- one number behind them
+pub lying-one : {out p now : List ℕ} {k : ℕ} (n : ℕ) → Lying out p k now → k < length out → Lying out (p ++ n ∷ []) (k + 1) (set now k n)
+lying-one {out} {p} {now} {k} n l h = record {
+  same = ap (λ (o : List ℕ). set o k n) (l .same ∙ ap (p ++_) (drop-cons out k 0 h)) ∙ set-at p (getD out k 0) (drop (suc k) out) n k (l .many) ∙ rw (append-assoc, add-one);
+  many = length-append p (n ∷ []) ∙ omega (arith, l .many);
+  room = omega arith;
+}
+
+-- a part behind them
+pub lying-part : {out p now ys xs : List ℕ} {k : ℕ} (j : ℕ) → Lying out p k now → ys ≡ xs → length ys ≡ j → k + j ≤ length out → Lying out (p ++ xs) (k + j) (take k now ++ (ys ++ drop j (drop k now)))
+lying-part {out} {p} {now} {ys} {xs} {k} j l e long h = record {
+  same = ap (λ (o : List ℕ). take k o ++ (ys ++ drop j (drop k o))) (l .same) ∙ part-at p (drop k out) k j ys (l .many) ∙ rw (e, drop-drop, append-assoc);
+  many = length-append p xs ∙ omega (arith, ap length e, long, l .many);
+  room = h;
+}
+
+-- as many as there is room for are all there is
+pub lying-all : {out p now : List ℕ} {k : ℕ} → Lying out p k now → length out ≤ k → now ≡ p
+lying-all {out} {p} {now} {k} l h = rw (drop-of-length-le out h, append-nil) at (l .same)
 
 -- what is lent at the start and filled lies over the rest
 pub over-lent : (from ys to : List ℕ) (n : ℕ) → ys ≡ from → length ys ≡ n → over from to ≡ ys ++ drop n to

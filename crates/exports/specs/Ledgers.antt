@@ -2,7 +2,7 @@
 -- Assumes nothing.
 use mathlib.Core.Bool.{Bool, true, false, not, cond}
 use mathlib.Core.List.{List, [], _∷_, _++_}
-use Prim.Native.Nat.{ℕ, zero, suc, _%_}
+use Prim.Native.Nat.{ℕ, zero, suc, _+_, _*_, _%_}
 use lib.Dec.{eqb, ltb}
 use lib.ListN.{length, take, drop, getD}
 use Rattle.fields.specs.Fields.{over}
@@ -10,7 +10,7 @@ use Rattle.rules.specs.declared.Role.{Role}
 use Rattle.rules.specs.declared.Role.the-variants.{Writer, Compactor}
 use Rattle.rules.specs.declared.Object.{Object}
 use Rattle.rules.specs.declared.Hold.{Hold}
-use Rattle.rules.specs.Limits.{limits, manifestLimit}
+use Rattle.rules.specs.Limits.{limits, manifestLimit, wordCount}
 use Rattle.rules.specs.State.{fresh as freshState}
 use Rattle.records.specs.declared.KindRead.{KindRead}
 use Rattle.records.specs.declared.KindRead.the-variants.{Known, Unknown}
@@ -29,7 +29,45 @@ abbrev pub flag : Bool → ℕ
 flag true = 1
 flag false = 0
 
--- Out: clock, the highest number collected, occupancy word, 64 places, the count of manifests and nine places, the count of holds and eight places
+-- How many numbers an object, a manifest and a hold have; a manifest's names stand behind the others
+
+abbrev pub objectSize : ℕ
+objectSize = 5
+
+abbrev pub namesAt : ℕ
+namesAt = 4
+
+abbrev pub manifestSize : ℕ
+manifestSize = namesAt + limits .names
+
+abbrev pub holdSize : ℕ
+holdSize = 3
+
+-- Where the parts begin: behind clock and highest number collected the occupancy words, the places, the count of manifests and their places, the count of
+-- holds and theirs
+
+abbrev pub occupancyAt : ℕ
+occupancyAt = 2
+
+abbrev pub objectsAt : ℕ
+objectsAt = occupancyAt + wordCount
+
+abbrev pub keptAt : ℕ
+keptAt = objectsAt + limits .places * objectSize
+
+abbrev pub manifestsAt : ℕ
+manifestsAt = keptAt + 1
+
+abbrev pub heldAt : ℕ
+heldAt = manifestsAt + manifestLimit limits * manifestSize
+
+abbrev pub holdsAt : ℕ
+holdsAt = heldAt + 1
+
+abbrev pub ledgerSize : ℕ
+ledgerSize = holdsAt + limits .holds * holdSize
+
+-- Out
 
 abbrev pub objectNumbers : Object → List ℕ
 objectNumbers o = o .number ∷ roleNumber (o .role) ∷ o .epoch ∷ o .currency ∷ flag (o .named) ∷ []
@@ -46,13 +84,10 @@ flat f (x ∷ xs) = f x ++ flat f xs
 
 unfoldable pub ledgerNumbers : Ledger → List ℕ
 ledgerNumbers l =
-    l .clock ∷ l .collected ∷ l .objects .occupancy ∷ (flat objectNumbers (l .objects .items)
+    l .clock ∷ l .collected ∷ (l .objects .occupancy
+    ++ (flat objectNumbers (l .objects .items)
     ++ (l .manifests .count ∷ (flat manifestNumbers (l .manifests .items)
-    ++ (l .holds .count ∷ flat holdNumbers (l .holds .items)))))
-
--- 3 + 64 * 5 + 1 + 9 * 20 + 1 + 8 * 3
-abbrev pub ledgerSize : ℕ
-ledgerSize = 529
+    ++ (l .holds .count ∷ flat holdNumbers (l .holds .items))))))
 
 -- In, of any numbers: a role is 0 or not, a mark is 0 or not, a currency's last 16 bits are taken
 
@@ -63,7 +98,7 @@ abbrev pub objectFrom : List ℕ → Object
 objectFrom v = record { number = getD v 0 0; role = roleFrom (getD v 1 0); epoch = getD v 2 0; currency = getD v 3 0 % 65536; named = not (eqb (getD v 4 0) 0) }
 
 abbrev pub manifestFrom : List ℕ → KeptManifest
-manifestFrom v = record { number = getD v 0 0; writer = getD v 1 0; compactor = getD v 2 0; count = getD v 3 0; names = take (limits .names) (drop 4 v) }
+manifestFrom v = record { number = getD v 0 0; writer = getD v 1 0; compactor = getD v 2 0; count = getD v 3 0; names = take (limits .names) (drop namesAt v) }
 
 abbrev pub holdFrom : List ℕ → Hold
 holdFrom v = record { number = getD v 0 0; manifest = getD v 1 0; expiry = getD v 2 0 }
@@ -74,13 +109,13 @@ each f size zero v = []
 each f size (suc k) v = f v ∷ each f size k (drop size v)
 
 abbrev pub objectsFrom : List ℕ → Objects
-objectsFrom v = record { occupancy = getD v 2 0; items = each objectFrom 5 (limits .places) (drop 3 v) }
+objectsFrom v = record { occupancy = take wordCount (drop occupancyAt v); items = each objectFrom objectSize (limits .places) (drop objectsAt v) }
 
 abbrev pub manifestsFrom : List ℕ → Manifests
-manifestsFrom v = record { count = getD v 323 0; items = each manifestFrom 20 (manifestLimit limits) (drop 324 v) }
+manifestsFrom v = record { count = getD v keptAt 0; items = each manifestFrom manifestSize (manifestLimit limits) (drop manifestsAt v) }
 
 abbrev pub holdsFrom : List ℕ → Holds
-holdsFrom v = record { count = getD v 504 0; items = each holdFrom 3 (limits .holds) (drop 505 v) }
+holdsFrom v = record { count = getD v heldAt 0; items = each holdFrom holdSize (limits .holds) (drop holdsAt v) }
 
 unfoldable pub ledgerFrom : List ℕ → Ledger
 ledgerFrom v = record { clock = getD v 0 0; collected = getD v 1 0; objects = objectsFrom v; manifests = manifestsFrom v; holds = holdsFrom v }

@@ -1,14 +1,24 @@
-// One step on any ledger value, for C: the ledger is 529 numbers, the step and the verdict as in the record calls.
+// One step on any ledger value, for C: the ledger is as many numbers as LEDGER, the step and the verdict as in the record calls.
 ghost use mathlib.Core.Path.{_≡_};
-ghost use Prim.Native.Nat.{_≤_};
+ghost use Prim.Native.Nat.{_*_, _≤_};
 ghost use lib.ListN.{length, getD, take};
 ghost use Rattle.rules.specs.Limits.{limits, manifestLimit};
 ghost use Rattle.fields.specs.Fields.{over};
 ghost use Rattle.exports.specs.Codec.{stepSize, verdictSize, verdictNumbers};
-ghost use Rattle.exports.specs.Ledgers.{flag, flat, each, roleFrom, objectFrom, manifestFrom, holdFrom, ledgerFrom, objectNumbers, manifestNumbers, holdNumbers, ledgerNumbers, ledgerSize, fresh, step};
+ghost use Rattle.exports.specs.Ledgers.{flag, flat, each, objectSize, manifestSize, holdSize, roleFrom, objectFrom, manifestFrom, holdFrom, ledgerFrom, objectNumbers, manifestNumbers, holdNumbers, ledgerNumbers, ledgerSize, fresh, step};
+use crate::HELD_AT;
+use crate::HOLD;
+use crate::HOLDS_AT;
+use crate::KEPT_AT;
 use crate::LEDGER;
 use crate::MALFORMED;
+use crate::MANIFEST;
+use crate::MANIFESTS_AT;
+use crate::NAMES_AT;
 use crate::NO_PLACE;
+use crate::OBJECT;
+use crate::OBJECTS_AT;
+use crate::OCCUPANCY_AT;
 use crate::STEP;
 use crate::VERDICT;
 use crate::codec;
@@ -29,6 +39,7 @@ use rules::PLACES;
 use rules::Role;
 use rules::Step;
 use rules::Verdict;
+use rules::WORDS;
 
 // In
 
@@ -42,7 +53,7 @@ fn role_from(n: u64) -> Role
 }
 
 fn object_from(v: &[u64]) -> Object
-    requires { ⌜ 5 ≤ length (now v) ⌝ }
+    requires { ⌜ objectSize ≤ length (now v) ⌝ }
     ensures { λ r. ⌜ r ≡ objectFrom (now (v .entry)) ⌝ }
 {
     let number = v[0];
@@ -60,8 +71,8 @@ fn object_from(v: &[u64]) -> Object
 }
 
 fn object_items(v: &[u64]) -> [Object; PLACES]
-    requires { ⌜ 320 ≤ length (now v) ⌝ }
-    ensures { λ r. ⌜ r ≡ each objectFrom 5 (limits .places) (now (v .entry)) ⌝ }
+    requires { ⌜ limits .places * objectSize ≤ length (now v) ⌝ }
+    ensures { λ r. ⌜ r ≡ each objectFrom objectSize (limits .places) (now (v .entry)) ⌝ }
 {
     let zero = Object {
         number: 0,
@@ -73,18 +84,18 @@ fn object_items(v: &[u64]) -> [Object; PLACES]
     let mut items = [zero; PLACES];
     let mut i: usize = 0;
     while i < PLACES {
-        items[i] = object_from(&v[5 * i..]);
+        items[i] = object_from(&v[OBJECT * i..]);
         i += 1;
     }
     items
 }
 
 fn manifest_from(v: &[u64]) -> KeptManifest
-    requires { ⌜ 20 ≤ length (now v) ⌝ }
+    requires { ⌜ manifestSize ≤ length (now v) ⌝ }
     ensures { λ r. ⌜ r ≡ manifestFrom (now (v .entry)) ⌝ }
 {
     let mut names = [0u64; NAMES];
-    codec::fill(&v[4..20], &mut names);
+    codec::fill(&v[NAMES_AT..MANIFEST], &mut names);
     let number = v[0];
     let writer = v[1];
     let compactor = v[2];
@@ -99,8 +110,8 @@ fn manifest_from(v: &[u64]) -> KeptManifest
 }
 
 fn manifest_items(v: &[u64]) -> [KeptManifest; MANIFESTS]
-    requires { ⌜ 180 ≤ length (now v) ⌝ }
-    ensures { λ r. ⌜ r ≡ each manifestFrom 20 (manifestLimit limits) (now (v .entry)) ⌝ }
+    requires { ⌜ manifestLimit limits * manifestSize ≤ length (now v) ⌝ }
+    ensures { λ r. ⌜ r ≡ each manifestFrom manifestSize (manifestLimit limits) (now (v .entry)) ⌝ }
 {
     let names = [0u64; NAMES];
     let zero = KeptManifest {
@@ -113,14 +124,14 @@ fn manifest_items(v: &[u64]) -> [KeptManifest; MANIFESTS]
     let mut items = [zero; MANIFESTS];
     let mut i: usize = 0;
     while i < MANIFESTS {
-        items[i] = manifest_from(&v[20 * i..]);
+        items[i] = manifest_from(&v[MANIFEST * i..]);
         i += 1;
     }
     items
 }
 
 fn hold_from(v: &[u64]) -> Hold
-    requires { ⌜ 3 ≤ length (now v) ⌝ }
+    requires { ⌜ holdSize ≤ length (now v) ⌝ }
     ensures { λ r. ⌜ r ≡ holdFrom (now (v .entry)) ⌝ }
 {
     let number = v[0];
@@ -134,8 +145,8 @@ fn hold_from(v: &[u64]) -> Hold
 }
 
 fn hold_items(v: &[u64]) -> [Hold; HOLDS]
-    requires { ⌜ 24 ≤ length (now v) ⌝ }
-    ensures { λ r. ⌜ r ≡ each holdFrom 3 (limits .holds) (now (v .entry)) ⌝ }
+    requires { ⌜ limits .holds * holdSize ≤ length (now v) ⌝ }
+    ensures { λ r. ⌜ r ≡ each holdFrom holdSize (limits .holds) (now (v .entry)) ⌝ }
 {
     let zero = Hold {
         number: 0,
@@ -145,7 +156,7 @@ fn hold_items(v: &[u64]) -> [Hold; HOLDS]
     let mut items = [zero; HOLDS];
     let mut i: usize = 0;
     while i < HOLDS {
-        items[i] = hold_from(&v[3 * i..]);
+        items[i] = hold_from(&v[HOLD * i..]);
         i += 1;
     }
     items
@@ -156,20 +167,21 @@ pub fn ledger_from(v: &[u64]) -> Ledger
     requires { ⌜ ledgerSize ≤ length (now v) ⌝ }
     ensures { λ r. ⌜ r ≡ ledgerFrom (now (v .entry)) ⌝ }
 {
-    let occupancy = v[2];
-    let places = object_items(&v[3..]);
+    let mut occupancy = [0u64; WORDS];
+    codec::fill(&v[OCCUPANCY_AT..OBJECTS_AT], &mut occupancy);
+    let places = object_items(&v[OBJECTS_AT..]);
     let objects = Objects {
         occupancy,
         items: places,
     };
-    let kept = v[323] as usize;
-    let all = manifest_items(&v[324..]);
+    let kept = v[KEPT_AT] as usize;
+    let all = manifest_items(&v[MANIFESTS_AT..]);
     let manifests = Manifests {
         count: kept,
         items: all,
     };
-    let held = v[504] as usize;
-    let rest = hold_items(&v[505..]);
+    let held = v[HELD_AT] as usize;
+    let rest = hold_items(&v[HOLDS_AT..]);
     let holds = Holds {
         count: held,
         items: rest,
@@ -196,7 +208,7 @@ fn flag_number(b: bool) -> u64
     0
 }
 
-fn object_numbers(o: Object) -> [u64; 5]
+fn object_numbers(o: Object) -> [u64; OBJECT]
     ensures { λ r. ⌜ r ≡ objectNumbers o ⌝ }
 {
     let role = o.role;
@@ -207,59 +219,59 @@ fn object_numbers(o: Object) -> [u64; 5]
 }
 
 fn put_objects(items: [Object; PLACES], out: &mut [u64])
-    requires { ⌜ length (now out) ≡ 320 ⌝ }
+    requires { ⌜ length (now out) ≡ limits .places * objectSize ⌝ }
     ensures { λ _. ⌜ now (out .exit) ≡ flat objectNumbers items ⌝ }
 {
     let mut i: usize = 0;
     while i < PLACES {
         let o = items[i];
         let from = object_numbers(o);
-        codec::fill(&from, &mut out[5 * i..5 * i + 5]);
+        codec::fill(&from, &mut out[OBJECT * i..OBJECT * i + OBJECT]);
         i += 1;
     }
 }
 
-fn manifest_numbers(m: KeptManifest) -> [u64; 20]
+fn manifest_numbers(m: KeptManifest) -> [u64; MANIFEST]
     ensures { λ r. ⌜ r ≡ manifestNumbers m ⌝ }
 {
     let names = m.names;
-    let mut v = [0u64; 20];
+    let mut v = [0u64; MANIFEST];
     v[0] = m.number;
     v[1] = m.writer;
     v[2] = m.compactor;
     v[3] = m.count as u64;
-    codec::fill(&names, &mut v[4..20]);
+    codec::fill(&names, &mut v[NAMES_AT..MANIFEST]);
     v
 }
 
 fn put_manifests(items: [KeptManifest; MANIFESTS], out: &mut [u64])
-    requires { ⌜ length (now out) ≡ 180 ⌝ }
+    requires { ⌜ length (now out) ≡ manifestLimit limits * manifestSize ⌝ }
     ensures { λ _. ⌜ now (out .exit) ≡ flat manifestNumbers items ⌝ }
 {
     let mut i: usize = 0;
     while i < MANIFESTS {
         let m = items[i];
         let from = manifest_numbers(m);
-        codec::fill(&from, &mut out[20 * i..20 * i + 20]);
+        codec::fill(&from, &mut out[MANIFEST * i..MANIFEST * i + MANIFEST]);
         i += 1;
     }
 }
 
-fn hold_numbers(h: Hold) -> [u64; 3]
+fn hold_numbers(h: Hold) -> [u64; HOLD]
     ensures { λ r. ⌜ r ≡ holdNumbers h ⌝ }
 {
     [h.number, h.manifest, h.expiry]
 }
 
 fn put_holds(items: [Hold; HOLDS], out: &mut [u64])
-    requires { ⌜ length (now out) ≡ 24 ⌝ }
+    requires { ⌜ length (now out) ≡ limits .holds * holdSize ⌝ }
     ensures { λ _. ⌜ now (out .exit) ≡ flat holdNumbers items ⌝ }
 {
     let mut i: usize = 0;
     while i < HOLDS {
         let h = items[i];
         let from = hold_numbers(h);
-        codec::fill(&from, &mut out[3 * i..3 * i + 3]);
+        codec::fill(&from, &mut out[HOLD * i..HOLD * i + HOLD]);
         i += 1;
     }
 }
@@ -272,17 +284,18 @@ pub fn put_ledger(ledger: Ledger, out: &mut [u64])
     out[0] = ledger.clock;
     out[1] = ledger.collected;
     let objects = ledger.objects;
-    out[2] = objects.occupancy;
+    let words = objects.occupancy;
+    codec::fill(&words, &mut out[OCCUPANCY_AT..OBJECTS_AT]);
     let places = objects.items;
-    put_objects(places, &mut out[3..323]);
+    put_objects(places, &mut out[OBJECTS_AT..KEPT_AT]);
     let manifests = ledger.manifests;
-    out[323] = manifests.count as u64;
+    out[KEPT_AT] = manifests.count as u64;
     let all = manifests.items;
-    put_manifests(all, &mut out[324..504]);
+    put_manifests(all, &mut out[MANIFESTS_AT..HELD_AT]);
     let holds = ledger.holds;
-    out[504] = holds.count as u64;
+    out[HELD_AT] = holds.count as u64;
     let rest = holds.items;
-    put_holds(rest, &mut out[505..529]);
+    put_holds(rest, &mut out[HOLDS_AT..LEDGER]);
 }
 
 // The calls

@@ -11,27 +11,28 @@ use Rattle.ledger.specs.declared.Ledger.{Ledger}
 use Rattle.desk.specs.declared.Entry.{Entry}
 use Rattle.desk.specs.declared.RowFilled.{RowFilled}
 use Rattle.desk.specs.Card.{rowOf}
-use Rattle.exports.specs.Ledgers.{ledgerNumbers}
+use Rattle.exports.specs.Ledgers.{ledgerNumbers, ledgerSize}
 use Rattle.exports.proofs.Places.{over-lent}
+use Rattle.desk.specs.Card.{rowLimit}
 use Rattle.desk_exports.specs.Calls.{filledIn, fillCard}
 use Rattle.desk_exports.proofs.cuudhaqil_fill_card.Statement.{statement}
 use Rattle.desk_exports.proofs.cuudhaqil_fill_card.Tie as tie
 
 returns : tie.Need-returns
 unfolding fillCard
-returns c = rw (lt-ltb (length (c .before .before .before .args .ledger .now)) 529 (c .if1 .taken))
+returns c = rw (lt-ltb (length (c .before .before .before .args .ledger .now)) ledgerSize (c .if1 .taken))
 
 returns-2 : tie.Need-returns-2
 unfolding fillCard
 returns-2 c =
     let a = c .before .before .before .before .args in
-    rw (le-ltb (length (a .ledger .now)) 529 (c .before .if1 .left), lt-ltb 64 (length (a .card .now) / 3) (c .if2 .taken))
+    rw (le-ltb (length (a .ledger .now)) ledgerSize (c .before .if1 .left), lt-ltb rowLimit (length (a .card .now) / 3) (c .if2 .taken))
 
 returns-3 : tie.Need-returns-3
 unfolding fillCard
 returns-3 c =
     let a = c .before .before .before .before .before .args in
-    rw (le-ltb (length (a .ledger .now)) 529 (c .before .before .if1 .left), le-ltb 64 (length (a .card .now) / 3) (c .before .if2 .left), lt-ltb (length (a .card .now) / 3) (a .count) (c .if3 .taken))
+    rw (le-ltb (length (a .ledger .now)) ledgerSize (c .before .before .if1 .left), le-ltb rowLimit (length (a .card .now) / 3) (c .before .if2 .left), lt-ltb (length (a .card .now) / 3) (a .count) (c .if3 .taken))
 
 returns-4 : tie.Need-returns-4
 unfolding fillCard
@@ -45,9 +46,9 @@ returns-4 c =
     let ledger = a .ledger .now in
     let card = a .card .now in
     let r = done .fill-row .result in
-    let next = over-lent (ledgerNumbers (r .ledger)) (put .put-ledger .last .1 .0) ledger 529 (put .put-ledger .ensures) (put .put-ledger .kept .1 .0 ∙ mid-len 0 529 ledger (omega (arith, long .if1 .left))) in
+    let next = over-lent (ledgerNumbers (r .ledger)) (put .put-ledger .last .1 .0) ledger ledgerSize (put .put-ledger .ensures) (put .put-ledger .kept .1 .0 ∙ mid-len 0 ledgerSize ledger (omega (arith, long .if1 .left))) in
     let filled = done .fill-row .ensures ∙ ap₂ (λ (l : Ledger) (es : List Entry). rowOf l (a .time) (a .hold) (a .count) es) (done .before .before .before .ledger-from .ensures) (done .before .row-from .ensures) in
-    rw (le-ltb (length ledger) 529 (long .if1 .left), le-ltb 64 (length card / 3) (short .if2 .left), le-ltb (length card / 3) (a .count) (few .if3 .left))
+    rw (le-ltb (length ledger) ledgerSize (long .if1 .left), le-ltb rowLimit (length card / 3) (short .if2 .left), le-ltb (length card / 3) (a .count) (few .if3 .left))
     (ap (λ (x : RowFilled). filledIn ledger (a .time) (a .hold) (a .count) card x) (sym filled)
     ∙ (λ i. record { answer = r .code; ledger = next i; card = sym (c .before .before .before .put-filled .ensures) i }))
 

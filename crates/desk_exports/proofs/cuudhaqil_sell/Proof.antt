@@ -11,7 +11,7 @@ use Rattle.fields.specs.Fields.{over}
 use Rattle.ledger.specs.declared.Ledger.{Ledger}
 use Rattle.desk.specs.declared.SaleAnswer.{SaleAnswer}
 use Rattle.desk.specs.Sale.{saleOf}
-use Rattle.exports.specs.Ledgers.{ledgerNumbers}
+use Rattle.exports.specs.Ledgers.{ledgerNumbers, ledgerSize}
 use Rattle.exports.proofs.Over.{over-two}
 use Rattle.exports.proofs.Places.{over-lent}
 use Rattle.desk_exports.specs.Calls.{told, sell}
@@ -20,13 +20,13 @@ use Rattle.desk_exports.proofs.cuudhaqil_sell.Tie as tie
 
 returns : tie.Need-returns
 unfolding sell
-returns c = rw (lt-ltb (length (c .before .before .before .before .args .ledger .now)) 529 (c .if1 .taken))
+returns c = rw (lt-ltb (length (c .before .before .before .before .args .ledger .now)) ledgerSize (c .if1 .taken))
 
 returns-2 : tie.Need-returns-2
 unfolding sell
 returns-2 c =
     let a = c .before .before .before .before .before .args in
-    rw (le-ltb (length (a .ledger .now)) 529 (c .before .if1 .left), lt-ltb (length (a .sale .now)) 2 (c .if2 .taken))
+    rw (le-ltb (length (a .ledger .now)) ledgerSize (c .before .if1 .left), lt-ltb (length (a .sale .now)) 2 (c .if2 .taken))
 
 returns-3 : tie.Need-returns-3
 unfolding sell
@@ -39,10 +39,10 @@ returns-3 c =
     let ledger = a .ledger .now in
     let sale = a .sale .now in
     let r = done .sell .result in
-    let next = over-lent (ledgerNumbers (r .ledger)) (put .put-ledger .last .1 .0) ledger 529 (put .put-ledger .ensures) (put .put-ledger .kept .1 .0 ∙ mid-len 0 529 ledger (omega (arith, long .if1 .left))) in
+    let next = over-lent (ledgerNumbers (r .ledger)) (put .put-ledger .last .1 .0) ledger ledgerSize (put .put-ledger .ensures) (put .put-ledger .kept .1 .0 ∙ mid-len 0 ledgerSize ledger (omega (arith, long .if1 .left))) in
     let sold = done .sell .ensures ∙ ap₂ (λ (l : Ledger) (m : ℕ). saleOf l (a .time) (a .sheet .now) m (a .hold) (a .fare)) (done .before .before .ledger-from .ensures) (done .before .narrow-currency .ensures) in
     let numbers = ap₂ (λ (x y : ℕ). over (x ∷ y ∷ []) sale) (sym (c .before .sale-code .ensures)) (sym (c .charge-in .ensures)) ∙ over-two _ _ sale (omega (arith, places .if2 .left)) in
-    rw (le-ltb (length ledger) 529 (long .if1 .left), le-ltb (length sale) 2 (places .if2 .left))
+    rw (le-ltb (length ledger) ledgerSize (long .if1 .left), le-ltb (length sale) 2 (places .if2 .left))
     (ap (λ (x : SaleAnswer). told ledger (a .time) (a .sheet .now) (a .currency) (a .hold) (a .fare) sale x) (sym sold)
     ∙ (λ i. record { answer = 0; ledger = next i; sale = numbers i }))
 

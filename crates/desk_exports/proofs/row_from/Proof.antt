@@ -6,12 +6,13 @@ use native.Mathlib.Numerals.{add-one}
 use native.Mathlib.Omega.{arith}
 use lib.ListN.{length, set, length-set}
 use Rattle.desk.specs.declared.Entry.{Entry}
+use Rattle.desk.specs.Card.{rowLimit}
 use Rattle.desk_exports.specs.Calls.{blank, rowFrom}
 use Rattle.desk_exports.proofs.row_from.Statement.{statement}
 use Rattle.desk_exports.proofs.row_from.Tie as tie
 
 abbrev Inv-loop : tie.InvT-loop
-Inv-loop card count row₀ i₀ row i = (i ≤ count) × (length row ≡ 64) × (row ≡ rowFrom i card)
+Inv-loop card count row₀ i₀ row i = (i ≤ count) × (length row ≡ rowLimit) × (row ≡ rowFrom i card)
 
 abbrev μ-loop : tie.MeasureT-loop
 μ-loop card count row₀ i₀ row i = count - i

@@ -8,21 +8,21 @@ use borrow.Author.Tests.{lt-ltb, le-ltb}
 use borrow.Rule.Slice.PartMut.{mid-len}
 use Rattle.ledger.specs.Ledger.{lay}
 use Rattle.rules.specs.State.{fresh as freshState}
-use Rattle.exports.specs.Ledgers.{ledgerNumbers, fresh}
+use Rattle.exports.specs.Ledgers.{ledgerSize, ledgerNumbers, fresh}
 use Rattle.exports.proofs.Places.{over-lent}
 use Rattle.exports.proofs.ledgers.cuudhaqil_fresh.Statement.{statement}
 use Rattle.exports.proofs.ledgers.cuudhaqil_fresh.Tie as tie
 
 returns : tie.Need-returns
 unfolding fresh
-returns c = rw (lt-ltb (length (c .before .before .args .numbers .now)) 529 (c .if1 .taken))
+returns c = rw (lt-ltb (length (c .before .before .args .numbers .now)) ledgerSize (c .if1 .taken))
 
 returns-2 : tie.Need-returns-2
 unfolding fresh
 returns-2 c =
     let to = c .before .before .before .before .before .before .before .args .numbers .now in
     let put = c .before .before .put-ledger in
-    rw (le-ltb (length to) 529 (c .before .before .before .before .before .if1 .left), over-lent (ledgerNumbers (lay freshState)) (put .last .1 .0) to 529 (put .ensures ∙ ap ledgerNumbers (c .before .before .before .before .fresh .ensures)) (put .kept .1 .0 ∙ mid-len 0 529 to (omega arith)))
+    rw (le-ltb (length to) ledgerSize (c .before .before .before .before .before .if1 .left), over-lent (ledgerNumbers (lay freshState)) (put .last .1 .0) to ledgerSize (put .ensures ∙ ap ledgerNumbers (c .before .before .before .before .fresh .ensures)) (put .kept .1 .0 ∙ mid-len 0 ledgerSize to (omega arith)))
 
 pub cuudhaqil-fresh-spec : {M : Type 1} → statement M
 cuudhaqil-fresh-spec =

@@ -6,16 +6,17 @@ use Prim.Native.Nat.{_*_, _-_, _≤_}
 use native.Mathlib.Omega.{arith}
 use lib.ListN.{length, take, drop, length-set}
 use borrow.Author.Needs.{needs}
-use Rattle.exports.specs.Ledgers.{each, holdFrom}
+use Rattle.rules.specs.Limits.{limits}
+use Rattle.exports.specs.Ledgers.{each, holdSize, holdFrom}
 use Rattle.exports.proofs.Places.{each-next, each-done}
 use Rattle.exports.proofs.ledgers.hold_items.Statement.{statement}
 use Rattle.exports.proofs.ledgers.hold_items.Tie as tie
 
 abbrev Inv-loop : tie.InvT-loop
-Inv-loop v items₀ i₀ items i = (i ≤ 8) × (length items ≡ 8) × (take i items ++ each holdFrom 3 (8 - i) (drop (3 * i) v) ≡ each holdFrom 3 8 v)
+Inv-loop v items₀ i₀ items i = (i ≤ limits .holds) × (length items ≡ limits .holds) × (take i items ++ each holdFrom holdSize (limits .holds - i) (drop (holdSize * i) v) ≡ each holdFrom holdSize (limits .holds) v)
 
 abbrev μ-loop : tie.MeasureT-loop
-μ-loop v items₀ i₀ items i = 8 - i
+μ-loop v items₀ i₀ items i = limits .holds - i
 
 loop-holds : tie.Need-loop-holds Inv-loop μ-loop
 loop-holds c = (omega arith, search needs, refl)
@@ -27,12 +28,12 @@ loop-again : tie.Need-loop-again Inv-loop μ-loop
 loop-again c =
     let l = c .before .before .before .loop in
     let v = c .before .before .before .before .before .args .v .now in
-    (omega arith, simp length-set (l .inv .1), each-next holdFrom 3 8 (l .i) v (l .items) (c .hold-from .result) (omega arith) (l .inv .1) (c .hold-from .ensures) (l .inv .2))
+    (omega arith, simp length-set (l .inv .1), each-next holdFrom holdSize (limits .holds) (l .i) v (l .items) (c .hold-from .result) (omega arith) (l .inv .1) (c .hold-from .ensures) (l .inv .2))
 
 returns : tie.Need-returns Inv-loop μ-loop
 returns c =
     let l = c .before .loop in
-    each-done holdFrom 3 8 (l .i) (c .before .before .before .args .v .now) (l .items) (omega arith) (l .inv .1) (l .inv .2)
+    each-done holdFrom holdSize (limits .holds) (l .i) (c .before .before .before .args .v .now) (l .items) (omega arith) (l .inv .1) (l .inv .2)
 
 pub hold-items-spec : {M : Type 1} → statement M
 hold-items-spec =

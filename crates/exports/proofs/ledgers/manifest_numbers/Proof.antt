@@ -5,20 +5,21 @@ use mathlib.Core.List.{append-nil}
 use native.Mathlib.Omega.{arith}
 use lib.ListN.{length, replicate}
 use borrow.Author.Needs.{needs}
+use Rattle.rules.specs.Limits.{limits}
 use Rattle.exports.proofs.Over.{over-all}
 use Rattle.exports.proofs.ledgers.manifest_numbers.Statement.{statement}
 use Rattle.exports.proofs.ledgers.manifest_numbers.Tie as tie
 
 fill-requires : tie.Need-fill-requires
 fill-requires c κs =
-    let many : length (c .before .before .before .args .m .names) ≡ 16 = search needs in
+    let many : length (c .before .before .before .args .m .names) ≡ limits .names = search needs in
     omega (arith, many)
 
 returns : tie.Need-returns
 returns c =
     let names = c .before .before .before .before .before .args .m .names in
-    let many : length names ≡ 16 = search needs in
-    rw (append-nil, c .before .fill .ensures ∙ over-all names (replicate 16 0) (omega (arith, many)))
+    let many : length names ≡ limits .names = search needs in
+    rw (append-nil, c .before .fill .ensures ∙ over-all names (replicate (limits .names) 0) (omega (arith, many)))
 
 pub manifest-numbers-spec : {M : Type 1} → statement M
 manifest-numbers-spec =

@@ -6,16 +6,17 @@ use Prim.Native.Nat.{_*_, _-_, _≤_}
 use native.Mathlib.Omega.{arith}
 use lib.ListN.{length, take, drop, length-set}
 use borrow.Author.Needs.{needs}
-use Rattle.exports.specs.Ledgers.{each, objectFrom}
+use Rattle.rules.specs.Limits.{limits}
+use Rattle.exports.specs.Ledgers.{each, objectSize, objectFrom}
 use Rattle.exports.proofs.Places.{each-next, each-done}
 use Rattle.exports.proofs.ledgers.object_items.Statement.{statement}
 use Rattle.exports.proofs.ledgers.object_items.Tie as tie
 
 abbrev Inv-loop : tie.InvT-loop
-Inv-loop v items₀ i₀ items i = (i ≤ 64) × (length items ≡ 64) × (take i items ++ each objectFrom 5 (64 - i) (drop (5 * i) v) ≡ each objectFrom 5 64 v)
+Inv-loop v items₀ i₀ items i = (i ≤ limits .places) × (length items ≡ limits .places) × (take i items ++ each objectFrom objectSize (limits .places - i) (drop (objectSize * i) v) ≡ each objectFrom objectSize (limits .places) v)
 
 abbrev μ-loop : tie.MeasureT-loop
-μ-loop v items₀ i₀ items i = 64 - i
+μ-loop v items₀ i₀ items i = limits .places - i
 
 loop-holds : tie.Need-loop-holds Inv-loop μ-loop
 loop-holds c = (omega arith, search needs, refl)
@@ -27,12 +28,12 @@ loop-again : tie.Need-loop-again Inv-loop μ-loop
 loop-again c =
     let l = c .before .before .before .loop in
     let v = c .before .before .before .before .before .args .v .now in
-    (omega arith, simp length-set (l .inv .1), each-next objectFrom 5 64 (l .i) v (l .items) (c .object-from .result) (omega arith) (l .inv .1) (c .object-from .ensures) (l .inv .2))
+    (omega arith, simp length-set (l .inv .1), each-next objectFrom objectSize (limits .places) (l .i) v (l .items) (c .object-from .result) (omega arith) (l .inv .1) (c .object-from .ensures) (l .inv .2))
 
 returns : tie.Need-returns Inv-loop μ-loop
 returns c =
     let l = c .before .loop in
-    each-done objectFrom 5 64 (l .i) (c .before .before .before .args .v .now) (l .items) (omega arith) (l .inv .1) (l .inv .2)
+    each-done objectFrom objectSize (limits .places) (l .i) (c .before .before .before .args .v .now) (l .items) (omega arith) (l .inv .1) (l .inv .2)
 
 pub object-items-spec : {M : Type 1} → statement M
 object-items-spec =

@@ -8,17 +8,18 @@ use lib.ListN.{length, take, drop}
 use borrow.Author.Needs.{needs}
 use borrow.Rule.Slice.PartMut.{same-len-mid, mid-len, midOf, postOf}
 use Rattle.manifests.specs.Manifests.{pastEnd}
+use Rattle.rules.specs.Limits.{limits, manifestLimit}
 use Rattle.fields.specs.Fields.{over}
-use Rattle.exports.specs.Ledgers.{flat, manifestNumbers}
+use Rattle.exports.specs.Ledgers.{manifestSize, flat, manifestNumbers}
 use Rattle.exports.proofs.Places.{flat-next, flat-done}
 use Rattle.exports.proofs.ledgers.put_manifests.Statement.{statement}
 use Rattle.exports.proofs.ledgers.put_manifests.Tie as tie
 
 abbrev Inv-loop : tie.InvT-loop
-Inv-loop out₀ items i₀ out i = (i ≤ 9) × (length out ≡ length out₀) × (length out ≡ 180) × (length items ≡ 9) × (take (20 * i) out ++ flat manifestNumbers (drop i items) ≡ flat manifestNumbers items)
+Inv-loop out₀ items i₀ out i = (i ≤ manifestLimit limits) × (length out ≡ length out₀) × (length out ≡ manifestLimit limits * manifestSize) × (length items ≡ manifestLimit limits) × (take (manifestSize * i) out ++ flat manifestNumbers (drop i items) ≡ flat manifestNumbers items)
 
 abbrev μ-loop : tie.MeasureT-loop
-μ-loop out₀ items i₀ out i = 9 - i
+μ-loop out₀ items i₀ out i = manifestLimit limits - i
 
 loop-holds : tie.Need-loop-holds Inv-loop μ-loop
 loop-holds c = (omega arith, refl, c .before .pre, search needs, refl)
@@ -26,30 +27,30 @@ loop-holds c = (omega arith, refl, c .before .pre, search needs, refl)
 fill-requires : tie.Need-fill-requires Inv-loop μ-loop
 fill-requires c κs =
     let l = c .before .before .before .before .before .loop in
-    let many : length (c .before .before .manifest-numbers .result) ≡ 20 = search needs in
-    omega (arith, many, mid-len (20 * l .i) (20 * l .i + 20) (l .out) (omega arith))
+    let many : length (c .before .before .manifest-numbers .result) ≡ manifestSize = search needs in
+    omega (arith, many, mid-len (manifestSize * l .i) (manifestSize * l .i + manifestSize) (l .out) (omega arith))
 
 loop-again : tie.Need-loop-again Inv-loop μ-loop
 loop-again c =
     let l = c .before .before .before .before .before .before .before .before .loop in
-    let a = 20 * l .i in
+    let a = manifestSize * l .i in
     let put = c .before .before .fill in
     let made = c .before .before .before .before .before .manifest-numbers .ensures in
-    let same = same-len-mid a (a + 20 - a) (l .out) (put .last .1 .0) (put .kept .1 .0) in
-    let many : length (c .before .before .before .before .before .manifest-numbers .result) ≡ 20 = search needs in
-    let part = midOf a (a + 20 - a) (l .out) in
-    let fits = mid-len a (a + 20) (l .out) (omega arith) in (
+    let same = same-len-mid a (a + manifestSize - a) (l .out) (put .last .1 .0) (put .kept .1 .0) in
+    let many : length (c .before .before .before .before .before .manifest-numbers .result) ≡ manifestSize = search needs in
+    let part = midOf a (a + manifestSize - a) (l .out) in
+    let fits = mid-len a (a + manifestSize) (l .out) (omega arith) in (
       omega arith,
       same ∙ l .inv .1,
       same ∙ l .inv .2,
       l .inv .3,
-      flat-next manifestNumbers 20 (l .i) (c .before .before .before .before .before .before .before .before .before .before .args .t1) pastEnd (l .out) part (put .last .1 .0) (postOf a (a + 20 - a) (l .out)) (omega arith) (omega arith) (ap length (sym made) ∙ many) (omega (arith, fits)) (put .ensures ∙ ap (λ (n : List ℕ). over n part) made) (l .inv .4),
+      flat-next manifestNumbers manifestSize (l .i) (c .before .before .before .before .before .before .before .before .before .before .args .t1) pastEnd (l .out) part (put .last .1 .0) (postOf a (a + manifestSize - a) (l .out)) (omega arith) (omega arith) (ap length (sym made) ∙ many) (omega (arith, fits)) (put .ensures ∙ ap (λ (n : List ℕ). over n part) made) (l .inv .4),
     )
 
 returns : tie.Need-returns Inv-loop μ-loop
 returns c =
     let l = c .before .loop in
-    flat-done manifestNumbers 20 (l .i) _ (l .out) (omega arith) (omega arith) (l .inv .4)
+    flat-done manifestNumbers manifestSize (l .i) _ (l .out) (omega arith) (omega arith) (l .inv .4)
 
 pub put-manifests-spec : {M : Type 1} → statement M
 put-manifests-spec =

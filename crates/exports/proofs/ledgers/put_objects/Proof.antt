@@ -8,17 +8,18 @@ use lib.ListN.{length, take, drop}
 use borrow.Author.Needs.{needs}
 use borrow.Rule.Slice.PartMut.{same-len-mid, mid-len, midOf, postOf}
 use Rattle.rules.specs.State.{free}
+use Rattle.rules.specs.Limits.{limits}
 use Rattle.fields.specs.Fields.{over}
-use Rattle.exports.specs.Ledgers.{flat, objectNumbers}
+use Rattle.exports.specs.Ledgers.{objectSize, flat, objectNumbers}
 use Rattle.exports.proofs.Places.{flat-next, flat-done}
 use Rattle.exports.proofs.ledgers.put_objects.Statement.{statement}
 use Rattle.exports.proofs.ledgers.put_objects.Tie as tie
 
 abbrev Inv-loop : tie.InvT-loop
-Inv-loop out₀ items i₀ out i = (i ≤ 64) × (length out ≡ length out₀) × (length out ≡ 320) × (length items ≡ 64) × (take (5 * i) out ++ flat objectNumbers (drop i items) ≡ flat objectNumbers items)
+Inv-loop out₀ items i₀ out i = (i ≤ limits .places) × (length out ≡ length out₀) × (length out ≡ limits .places * objectSize) × (length items ≡ limits .places) × (take (objectSize * i) out ++ flat objectNumbers (drop i items) ≡ flat objectNumbers items)
 
 abbrev μ-loop : tie.MeasureT-loop
-μ-loop out₀ items i₀ out i = 64 - i
+μ-loop out₀ items i₀ out i = limits .places - i
 
 loop-holds : tie.Need-loop-holds Inv-loop μ-loop
 loop-holds c = (omega arith, refl, c .before .pre, search needs, refl)
@@ -26,30 +27,30 @@ loop-holds c = (omega arith, refl, c .before .pre, search needs, refl)
 fill-requires : tie.Need-fill-requires Inv-loop μ-loop
 fill-requires c κs =
     let l = c .before .before .before .before .before .loop in
-    let many : length (c .before .before .object-numbers .result) ≡ 5 = search needs in
-    omega (arith, many, mid-len (5 * l .i) (5 * l .i + 5) (l .out) (omega arith))
+    let many : length (c .before .before .object-numbers .result) ≡ objectSize = search needs in
+    omega (arith, many, mid-len (objectSize * l .i) (objectSize * l .i + objectSize) (l .out) (omega arith))
 
 loop-again : tie.Need-loop-again Inv-loop μ-loop
 loop-again c =
     let l = c .before .before .before .before .before .before .before .before .loop in
-    let a = 5 * l .i in
+    let a = objectSize * l .i in
     let put = c .before .before .fill in
     let made = c .before .before .before .before .before .object-numbers .ensures in
-    let same = same-len-mid a (a + 5 - a) (l .out) (put .last .1 .0) (put .kept .1 .0) in
-    let many : length (c .before .before .before .before .before .object-numbers .result) ≡ 5 = search needs in
-    let part = midOf a (a + 5 - a) (l .out) in
-    let fits = mid-len a (a + 5) (l .out) (omega arith) in (
+    let same = same-len-mid a (a + objectSize - a) (l .out) (put .last .1 .0) (put .kept .1 .0) in
+    let many : length (c .before .before .before .before .before .object-numbers .result) ≡ objectSize = search needs in
+    let part = midOf a (a + objectSize - a) (l .out) in
+    let fits = mid-len a (a + objectSize) (l .out) (omega arith) in (
       omega arith,
       same ∙ l .inv .1,
       same ∙ l .inv .2,
       l .inv .3,
-      flat-next objectNumbers 5 (l .i) (c .before .before .before .before .before .before .before .before .before .before .args .t1) free (l .out) part (put .last .1 .0) (postOf a (a + 5 - a) (l .out)) (omega arith) (omega arith) (ap length (sym made) ∙ many) (omega (arith, fits)) (put .ensures ∙ ap (λ (n : List ℕ). over n part) made) (l .inv .4),
+      flat-next objectNumbers objectSize (l .i) (c .before .before .before .before .before .before .before .before .before .before .args .t1) free (l .out) part (put .last .1 .0) (postOf a (a + objectSize - a) (l .out)) (omega arith) (omega arith) (ap length (sym made) ∙ many) (omega (arith, fits)) (put .ensures ∙ ap (λ (n : List ℕ). over n part) made) (l .inv .4),
     )
 
 returns : tie.Need-returns Inv-loop μ-loop
 returns c =
     let l = c .before .loop in
-    flat-done objectNumbers 5 (l .i) _ (l .out) (omega arith) (omega arith) (l .inv .4)
+    flat-done objectNumbers objectSize (l .i) _ (l .out) (omega arith) (omega arith) (l .inv .4)
 
 pub put-objects-spec : {M : Type 1} → statement M
 put-objects-spec =

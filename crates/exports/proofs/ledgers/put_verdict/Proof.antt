@@ -6,13 +6,14 @@ use Prim.Native.Nat.{ℕ}
 use native.Mathlib.Omega.{arith}
 use lib.ListN.{length}
 use borrow.Author.Needs.{needs}
+use Rattle.rules.specs.Limits.{limits}
 use Rattle.fields.specs.Fields.{over}
 use Rattle.exports.proofs.ledgers.put_verdict.Statement.{statement}
 use Rattle.exports.proofs.ledgers.put_verdict.Tie as tie
 
 fill-requires-2 : tie.Need-fill-requires-2
 fill-requires-2 c κs =
-    let places : length (c .before .before .before .before .before .before .before .before .before .before .before .before .args .said .list .objects) ≡ 64 = search needs in
+    let places : length (c .before .before .before .before .before .before .before .before .before .before .before .before .args .said .list .objects) ≡ limits .places = search needs in
     omega (arith, places)
 
 returns : tie.Need-returns

@@ -8,7 +8,7 @@ use borrow.Author.Tests.{lt-ltb, le-ltb}
 use borrow.Rule.Slice.PartMut.{mid-len}
 use Rattle.ledger.specs.declared.Ledger.{Ledger}
 use Rattle.replay.specs.Replay.{Replay, replayOf}
-use Rattle.exports.specs.Ledgers.{ledgerNumbers}
+use Rattle.exports.specs.Ledgers.{ledgerSize, ledgerNumbers}
 use Rattle.exports.specs.Runs.{calledOn, runOn}
 use Rattle.exports.proofs.Over.{over-two}
 use Rattle.exports.proofs.Places.{over-lent}
@@ -17,13 +17,13 @@ use Rattle.exports.proofs.runs.cuudhaqil_run_on.Tie as tie
 
 returns : tie.Need-returns
 unfolding runOn
-returns c = rw (lt-ltb (length (c .before .before .before .before .before .args .ledger .now)) 529 (c .if1 .taken))
+returns c = rw (lt-ltb (length (c .before .before .before .before .before .args .ledger .now)) ledgerSize (c .if1 .taken))
 
 returns-2 : tie.Need-returns-2
 unfolding runOn
 returns-2 c =
     let a = c .before .before .before .before .before .before .args in
-    rw (le-ltb (length (a .ledger .now)) 529 (c .before .if1 .left), lt-ltb (length (a .counts .now)) 2 (c .if2 .taken))
+    rw (le-ltb (length (a .ledger .now)) ledgerSize (c .before .if1 .left), lt-ltb (length (a .counts .now)) 2 (c .if2 .taken))
 
 part-put-ledger-end : tie.Need-part-put-ledger-end
 part-put-ledger-end c = omega (arith, c .before .before .before .before .before .before .before .before .if1 .left)
@@ -39,8 +39,8 @@ returns-3 c =
     let ledger = a .ledger .now in
     let counts = a .counts .now in
     let r = ran .run .result in
-    let next = over-lent (ledgerNumbers (r .ledger)) (put .put-ledger .last .1 .0) ledger 529 (put .put-ledger .ensures) (put .put-ledger .kept .1 .0 ∙ mid-len 0 529 ledger (omega (arith, long .if1 .left))) in
-    rw (le-ltb (length ledger) 529 (long .if1 .left), le-ltb (length counts) 2 (places .if2 .left))
+    let next = over-lent (ledgerNumbers (r .ledger)) (put .put-ledger .last .1 .0) ledger ledgerSize (put .put-ledger .ensures) (put .put-ledger .kept .1 .0 ∙ mid-len 0 ledgerSize ledger (omega (arith, long .if1 .left))) in
+    rw (le-ltb (length ledger) ledgerSize (long .if1 .left), le-ltb (length counts) 2 (places .if2 .left))
     (ap (λ (l : Ledger). calledOn (replayOf l (a .trace .now) (a .out .now)) ledger counts) (sym (ran .before .before .ledger-from .ensures))
     ∙ ap (λ (x : Replay). calledOn x ledger counts) (ran .run .ensures)
     ∙ (λ i. record {
