@@ -9,8 +9,8 @@
 
 #include "cuudhaqil.h"
 
-/* No verdict record is longer, and no list. */
-enum { LONGEST_VERDICT = 522, PLACES = 64 };
+/* No list is longer, and no verdict record. */
+enum { PLACES = 256, LONGEST_VERDICT = 10 + 8 * PLACES };
 
 /* The table of refusals, from row 1. */
 static const char *const rows[] = {
@@ -24,7 +24,7 @@ static const char *const rows[] = {
     "a named object isn't stored",
     "number is stored",
     "number at most the highest collected and not stored",
-    "64 objects stored",
+    "256 objects stored",
     "a live hold has this number",
     "manifest not active",
     "8 live holds",

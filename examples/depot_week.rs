@@ -6,9 +6,9 @@
 
 use std::process::ExitCode;
 
-/// No verdict record is longer, and no list.
-const LONGEST_VERDICT: usize = 522;
-const PLACES: usize = 64;
+/// No list is longer, and no verdict record.
+const PLACES: usize = 256;
+const LONGEST_VERDICT: usize = 10 + 8 * PLACES;
 
 /// The table of refusals, from row 1.
 const ROWS: [&str; 17] = [
@@ -22,7 +22,7 @@ const ROWS: [&str; 17] = [
     "a named object isn't stored",
     "number is stored",
     "number at most the highest collected and not stored",
-    "64 objects stored",
+    "256 objects stored",
     "a live hold has this number",
     "manifest not active",
     "8 live holds",

@@ -10,7 +10,7 @@
 #include "cuudhaqil.h"
 #include "cuudhaqil_desk.h"
 
-enum { LEDGER = 529, SHEET = 4, SHEET_BYTES = 41, SALE = 2, ENTRY = 3 };
+enum { LEDGER = 1924, SHEET = 4, SHEET_BYTES = 41, SALE = 2, ENTRY = 3 };
 
 /* At time 0 the writer fences, at 10 it puts object 1 as a sheet of currency 978, at 11 it commits the list of it. */
 static const uint8_t trace[] = {

@@ -5,11 +5,13 @@ pub mod guided;
 pub mod loose;
 pub mod names;
 pub mod sheets;
+pub mod stocked;
 
+use std::collections::BTreeSet;
+
+use crate::limits::{NAMES, PLACES};
 use crate::random::Random;
-use crate::records::{
-    write_step, write_verdict, Kind, Role, Step, Verdict, LAST_CODE, NAMES, PLACES,
-};
+use crate::records::{write_step, write_verdict, Kind, Role, Step, Verdict, LAST_CODE};
 
 /// A number of any magnitude, often an edge.
 pub fn number(random: &mut Random) -> u64 {
@@ -33,26 +35,30 @@ pub fn expiry(random: &mut Random, time: u64) -> u64 {
     }
 }
 
-/// A strictly rising list without 0.
+/// A strictly rising list without 0, at times the longest.
 pub fn list(random: &mut Random, longest: usize) -> Vec<u64> {
-    let length = random.index(longest + 1);
-    let mut list: Vec<u64> = (0..length).map(|_| number(random).max(1)).collect();
-    list.sort();
-    list.dedup();
-    list
+    let length = match random.below(8) {
+        0 => longest,
+        _ => random.index(longest + 1),
+    };
+    let mut list = BTreeSet::new();
+    while list.len() < length {
+        list.insert(number(random).max(1));
+    }
+    list.into_iter().collect()
 }
 
 /// A well-formed step of any kind.
 pub fn step(random: &mut Random) -> Step {
     let time = number(random);
-    step_at(random, time)
+    step_at(random, time, NAMES)
 }
 
-/// A well-formed step of any kind at that time.
-pub fn step_at(random: &mut Random, time: u64) -> Step {
+/// A well-formed step of any kind at that time, with at most so many names.
+pub fn step_at(random: &mut Random, time: u64, names: usize) -> Step {
     let kind = kind(random, time);
     let list = match kind {
-        Kind::Commit { .. } => list(random, NAMES),
+        Kind::Commit { .. } => list(random, names),
         _ => Vec::new(),
     };
     Step { time, kind, list }

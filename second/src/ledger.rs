@@ -1,17 +1,14 @@
 //! The ledger: document 01, "What the ledger holds", "The ten steps" and
-//! "When a step is turned away", as request 1 of document 02 changes them.
+//! "When a step is turned away", as requests 1 and 4 of document 02 change
+//! them.
 //!
 //! The ledger here is always sound, so row 1 of the table is not in this
 //! file; `raw` has it, for ledgers described place by place.
 
 use std::collections::{BTreeMap, BTreeSet};
 
-use crate::records::{Kind, Role, Step, Verdict, LAST_CODE, PLACES};
-
-/// The most manifests kept.
-pub const MANIFESTS: usize = 9;
-/// The most holds kept.
-pub const HOLDS: usize = 8;
+use crate::limits::{Limits, HOLDS};
+use crate::records::{Kind, Role, Step, Verdict, LAST_CODE};
 
 #[derive(Debug, Clone, Copy, PartialEq, Eq)]
 pub struct Object {
@@ -40,6 +37,8 @@ pub struct Hold {
 /// Objects, manifests and holds stand under their numbers.
 #[derive(Debug, Clone, PartialEq, Eq)]
 pub struct Ledger {
+    /// Those of now, unless a trace is run at the old ones.
+    pub limits: Limits,
     pub clock: u64,
     /// The highest object number ever collected, 0 at first.
     pub highest_collected: u64,
@@ -66,8 +65,14 @@ impl Hold {
 
 impl Ledger {
     pub fn fresh() -> Self {
+        Ledger::fresh_within(Limits::NOW)
+    }
+
+    /// The fresh ledger at those limits.
+    pub fn fresh_within(limits: Limits) -> Self {
         let first = Manifest { writer: 0, compactor: 0, list: BTreeSet::new() };
         Ledger {
+            limits,
             clock: 0,
             highest_collected: 0,
             objects: BTreeMap::new(),
@@ -113,7 +118,7 @@ impl Ledger {
         let stored = |object: &u64| self.objects.contains_key(object);
         let live = |hold: &u64| self.holds.get(hold).is_some_and(|held| held.live(time));
         match (row, step.kind) {
-            (2, _) => !step.well_formed(),
+            (2, _) => !step.well_formed_within(self.limits.names),
             (3, _) => time < self.clock,
             (4..=5, kind) => self.epoch_refused(row, kind),
             (6..=7, kind) => self.slot_refused(row, kind),
@@ -121,7 +126,7 @@ impl Ledger {
             (8, Kind::Compact { object, .. }) => !stored(&object),
             (9, Kind::Put { object, .. }) => stored(&object),
             (10, Kind::Put { object, .. }) => !stored(&object) && object <= self.highest_collected,
-            (11, Kind::Put { .. }) => self.objects.len() >= PLACES,
+            (11, Kind::Put { .. }) => self.objects.len() >= self.limits.places,
             (12, Kind::Hold { hold, .. }) => live(&hold),
             (13, Kind::Hold { manifest, .. }) => !self.active(time).contains(&manifest),
             (14, Kind::Hold { .. }) => {
@@ -261,17 +266,21 @@ impl Ledger {
         let stored = self.objects.iter();
         let dead: Vec<u64> =
             stored.filter(|(name, object)| dead(name, object)).map(|(name, _)| *name).collect();
-        self.objects.retain(|name, _| !dead.contains(name));
-        for name in &dead {
-            self.highest_collected = self.highest_collected.max(*name);
+        // The list rises, as the objects do.
+        self.objects.retain(|name, _| dead.binary_search(name).is_err());
+        if let Some(highest) = dead.last() {
+            self.highest_collected = self.highest_collected.max(*highest);
         }
         dead
     }
 
+    /// Places are numbered across the occupancy words in order.
     fn lowest_free_place(&self) -> usize {
-        let taken: BTreeSet<usize> = self.objects.values().map(|object| object.place).collect();
-        let mut places = 0..PLACES;
-        places.find(|place| !taken.contains(place)).expect("row 11")
+        let mut taken = vec![false; self.limits.places];
+        for object in self.objects.values() {
+            taken[object.place] = true;
+        }
+        taken.iter().position(|taken| !taken).expect("row 11")
     }
 }
 

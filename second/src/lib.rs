@@ -1,5 +1,5 @@
-//! A second implementation of the ledger of document 01 and of requests 1 and 2
-//! of document 02, written from the documents alone, with which the proved
+//! A second implementation of the ledger of document 01 and of requests 1, 2
+//! and 4 of document 02, written from the documents alone, with which the proved
 //! library is compared.
 
 pub mod compare;
@@ -7,6 +7,7 @@ pub mod depot;
 pub mod desk;
 pub mod generate;
 pub mod ledger;
+pub mod limits;
 pub mod names;
 #[cfg(feature = "proved")]
 pub mod proved;

@@ -1,9 +1,11 @@
 //! A ledger described place by place, and which of them are sound: document
 //! 01, "What the ledger holds", in particular "A ledger is sound when" and
-//! "Unused places are all zero".
+//! "Unused places are all zero", with the four occupancy words of request 4 of
+//! document 02.
 
-use crate::ledger::{Hold, Ledger, Manifest, Object, HOLDS, MANIFESTS};
-use crate::records::{Role, Step, Verdict, NAMES, PLACES};
+use crate::ledger::{Hold, Ledger, Manifest, Object};
+use crate::limits::{Limits, HOLDS, MANIFESTS, NAMES, PLACES, WORD, WORDS};
+use crate::records::{Role, Step, Verdict};
 
 /// A role is 0 for the writer and 1 for the compactor; named is 0 or 1.
 #[derive(Debug, Clone, Copy, Default, PartialEq, Eq)]
@@ -31,12 +33,13 @@ pub struct RawHold {
     pub expiry: u64,
 }
 
-/// Any numbers may stand here. Bit 0 of the occupancy word is place 0.
+/// Any numbers may stand here. Bit i of occupancy word k is place
+/// `WORD * k + i`.
 #[derive(Debug, Clone, PartialEq, Eq)]
 pub struct Raw {
     pub clock: u64,
     pub highest_collected: u64,
-    pub occupancy: u64,
+    pub occupancy: [u64; WORDS],
     pub objects: Vec<RawObject>,
     pub manifest_count: u64,
     pub manifests: Vec<RawManifest>,
@@ -65,13 +68,16 @@ impl RawManifest {
 
 impl Raw {
     fn occupied(&self, place: usize) -> bool {
-        self.occupancy >> place & 1 == 1
+        self.occupancy[place / WORD] >> (place % WORD) & 1 == 1
     }
 
+    /// The stored objects by rising number.
     fn stored(&self) -> Vec<&RawObject> {
         let places = self.objects.iter().enumerate();
         let stored = places.filter(|(place, _)| self.occupied(*place));
-        stored.map(|(_, object)| object).collect()
+        let mut stored: Vec<&RawObject> = stored.map(|(_, object)| object).collect();
+        stored.sort_unstable_by_key(|object| object.number);
+        stored
     }
 
     fn kept(&self) -> &[RawManifest] {
@@ -85,7 +91,14 @@ impl Raw {
 
 pub fn sound(raw: &Raw) -> bool {
     // The later clauses rely on the counts, which the layout bounds.
-    layout(raw) && objects_sound(raw) && lists_sound(raw) && epochs_sound(raw) && holds_sound(raw)
+    if !layout(raw) {
+        return false;
+    }
+    let stored = raw.stored();
+    objects_sound(raw, &stored)
+        && lists_sound(raw, &stored)
+        && epochs_sound(raw)
+        && holds_sound(raw)
 }
 
 fn layout(raw: &Raw) -> bool {
@@ -131,27 +144,26 @@ fn hold_layout(raw: &Raw) -> bool {
 }
 
 fn rising(numbers: impl Iterator<Item = u64>) -> bool {
-    let numbers: Vec<u64> = numbers.collect();
-    numbers.windows(2).all(|pair| pair[0] < pair[1])
+    numbers.is_sorted_by(|one, next| one < next)
 }
 
 /// "stored objects have distinct numbers .. and an epoch from 1 to their role's
 /// current epoch"; of the numbers document 02, request 1, asks "only that they
 /// are distinct and not 0"
-fn objects_sound(raw: &Raw) -> bool {
+fn objects_sound(raw: &Raw, stored: &[&RawObject]) -> bool {
     let current = &raw.kept()[raw.kept().len() - 1];
-    let mut numbers: Vec<u64> = raw.stored().iter().map(|object| object.number).collect();
-    numbers.sort();
-    rising(numbers.into_iter())
-        && raw.stored().iter().all(|object| {
+    rising(stored.iter().map(|object| object.number))
+        && stored.iter().all(|object| {
             object.number != 0 && (1..=current.epoch(object.role)).contains(&object.epoch)
         })
 }
 
 /// "every listed object is stored and marked as named"
-fn lists_sound(raw: &Raw) -> bool {
-    let stored = raw.stored();
-    let named = |name: &u64| stored.iter().any(|o| o.number == *name && o.named == 1);
+fn lists_sound(raw: &Raw, stored: &[&RawObject]) -> bool {
+    let named = |name: &u64| {
+        let found = stored.binary_search_by_key(name, |object| object.number);
+        found.is_ok_and(|place| stored[place].named == 1)
+    };
     let mut lists = raw.kept().iter().filter_map(RawManifest::list);
     lists.all(|list| list.iter().all(named))
 }
@@ -179,7 +191,7 @@ pub fn raw(ledger: &Ledger) -> Raw {
     let mut raw = Raw {
         clock: ledger.clock,
         highest_collected: ledger.highest_collected,
-        occupancy: 0,
+        occupancy: [0; WORDS],
         objects: vec![RawObject::default(); PLACES],
         manifest_count: ledger.manifests.len() as u64,
         manifests: vec![RawManifest::unused(); MANIFESTS],
@@ -187,7 +199,7 @@ pub fn raw(ledger: &Ledger) -> Raw {
         holds: vec![RawHold::default(); HOLDS],
     };
     for (number, object) in &ledger.objects {
-        raw.occupancy |= 1 << object.place;
+        raw.occupancy[object.place / WORD] |= 1 << (object.place % WORD);
         raw.objects[object.place] = RawObject {
             number: *number,
             role: u64::from(object.role == Role::Compactor),
@@ -221,6 +233,7 @@ pub fn from_raw(raw: &Raw) -> Option<Ledger> {
     let places = raw.objects.iter().enumerate();
     let stored = places.filter(|(place, _)| raw.occupied(*place));
     Some(Ledger {
+        limits: Limits::NOW,
         clock: raw.clock,
         highest_collected: raw.highest_collected,
         objects: stored.map(|(place, o)| (o.number, object(place, o))).collect(),

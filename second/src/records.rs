@@ -2,10 +2,8 @@
 //! "When a step is turned away" for which steps are malformed, and "Records
 //! and names" for the bytes of steps and verdicts.
 
-/// The longest list of a manifest.
-pub const NAMES: usize = 16;
-/// The most objects a ledger stores, and so the longest collected list.
-pub const PLACES: usize = 64;
+use crate::limits::{NAMES, PLACES};
+
 /// The highest code in the table of refusals.
 pub const LAST_CODE: u8 = 17;
 
@@ -78,10 +76,15 @@ pub enum Next {
 impl Step {
     /// False exactly where row 2 applies.
     pub fn well_formed(&self) -> bool {
+        self.well_formed_within(NAMES)
+    }
+
+    /// The same where COMMIT's list may be at most that long.
+    pub fn well_formed_within(&self, names: usize) -> bool {
         // Compared with the step's own time, so the ledger plays no part.
         let lasting = |expiry: u64| expiry == 0 || expiry >= self.time;
         let list = match self.kind {
-            Kind::Commit { .. } => rising(&self.list, NAMES),
+            Kind::Commit { .. } => rising(&self.list, names),
             _ => self.list.is_empty(),
         };
         list && match self.kind {

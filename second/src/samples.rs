@@ -11,8 +11,9 @@ use crate::run::{judge, LONGEST_TRACE};
 /// A file's name and contents.
 pub type File = (String, Vec<u8>);
 
-/// With it the longest trace is given every verdict but 1.
-const SEED: u64 = 20_240_662;
+/// With it the longest trace is given every verdict but 1, and has the longest
+/// step and the longest verdict.
+const SEED: u64 = 20_240_860;
 
 pub fn examples() -> Vec<File> {
     vec![("depot_week.trace".to_string(), depot::trace())]
@@ -70,6 +71,7 @@ fn longest() -> Vec<u8> {
 #[cfg(test)]
 mod tests {
     use super::*;
+    use crate::limits::{LONGEST_STEP, LONGEST_VERDICT};
     use crate::records::LAST_CODE;
     use crate::run::run;
 
@@ -80,6 +82,7 @@ mod tests {
         let done = run(&Ledger::fresh(), &trace, usize::MAX);
         let (mut rest, mut out) = (&trace[..], &done.output[..]);
         let (mut codes, mut accepted) = ([0; LAST_CODE as usize + 1], [0; 10]);
+        let (mut longest_steps, mut longest_verdicts) = (0, 0);
         while let (Next::Record(step), Next::Record(verdict)) =
             (next_record(rest), next_record(out))
         {
@@ -87,6 +90,8 @@ mod tests {
             codes[code] += 1;
             if code == 0 {
                 accepted[usize::from(rest[0]) - 0x10] += 1;
+                longest_steps += usize::from(step == LONGEST_STEP);
+                longest_verdicts += usize::from(verdict == LONGEST_VERDICT);
             }
             (rest, out) = (&rest[step..], &out[verdict..]);
         }
@@ -95,6 +100,7 @@ mod tests {
         let mut rows = codes.iter().enumerate();
         assert!(rows.all(|(row, times)| (row == 1) == (*times == 0)), "{codes:?}");
         assert!(codes[0] > 5 * codes[1..].iter().sum::<usize>(), "{codes:?}");
+        assert!(longest_steps > 0 && longest_verdicts > 0);
     }
 
     #[test]

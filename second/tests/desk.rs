@@ -1,6 +1,6 @@
 //! The proved library's sale desk against the second one.
 
-use second::compare::desk::{cards, sales, sheets, Calls, SECOND};
+use second::compare::desk::{cards, sales, sheets, Calls, ENTRIES, SECOND};
 use second::compare::ledgers::{ledger_numbers, Course};
 use second::compare::Answers;
 use second::depot;
@@ -66,7 +66,7 @@ fn cards_agree(seed: u64, course: Course, sequences: usize) -> cards::Counts {
     assert_eq!(counts.cards, sequences * LENGTH);
     all_given(&counts.answers, &[0, 2, 3], 100);
     all_given(&counts.codes, &[0, 2, 3, 15, 16], 1_000);
-    all_given(&counts.entries, &(0..=66).collect::<Vec<_>>(), 5);
+    all_given(&counts.entries, &(0..=ENTRIES as u64 + 2).collect::<Vec<_>>(), 5);
     all_given(&counts.holds, &[0, 1, 2, 3], 50);
     assert!(counts.resumed >= 500 && counts.handed_on >= 50);
     counts
@@ -93,24 +93,34 @@ fn sheets_are_written_alike() {
 
 #[test]
 fn sales_agree_from_fresh() {
-    sales_agree(20_240_655, Course::Fresh, 1_200);
+    sales_agree(20_240_655, Course::Fresh, 600);
+}
+
+#[test]
+fn sales_agree_on_stocked_ledgers() {
+    sales_agree(20_240_669, Course::Stocked, 250);
 }
 
 #[test]
 fn sales_agree_near_the_highest_numbers() {
-    sales_agree(20_240_657, Course::High, 400);
+    sales_agree(20_240_657, Course::High, 300);
 }
 
 #[test]
 fn sales_agree_on_damaged_ledgers() {
-    let counts = sales_agree(20_240_659, Course::Damaged, 600);
+    let counts = sales_agree(20_240_659, Course::Damaged, 300);
     all_given(&counts.codes, &[1], 1_000);
     assert!(counts.damaged_sound >= 1_000, "{counts:?}");
 }
 
 #[test]
 fn cards_agree_from_fresh() {
-    cards_agree(20_240_661, Course::Fresh, 160);
+    cards_agree(20_240_661, Course::Fresh, 120);
+}
+
+#[test]
+fn cards_agree_on_stocked_ledgers() {
+    cards_agree(20_240_671, Course::Stocked, 60);
 }
 
 #[test]
@@ -120,7 +130,7 @@ fn cards_agree_near_the_highest_numbers() {
 
 #[test]
 fn cards_agree_on_damaged_ledgers() {
-    let counts = cards_agree(20_240_665, Course::Damaged, 100);
+    let counts = cards_agree(20_240_665, Course::Damaged, 80);
     all_given(&counts.codes, &[1], 1_000);
     assert!(counts.damaged_sound >= 1_000, "{counts:?}");
 }

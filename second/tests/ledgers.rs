@@ -3,6 +3,7 @@
 use second::compare::ledgers::{compare_sequence, Calls, Counts, Course, SECOND};
 use second::compare::Answers;
 use second::generate::guided::Guide;
+use second::limits::{PLACES, WORDS};
 use second::proved;
 use second::random::Random;
 
@@ -20,6 +21,9 @@ fn agree(seed: u64, course: Course, sequences: usize) -> Counts {
     }
     let Counts { steps, answers, verdicts, accepted, damaged_sound, .. } = &counts;
     println!("{course:?}: {steps} steps, answers {answers:?}");
+    println!("  accepted by stored objects: {:?}", counts.stored);
+    println!("  collections by length: {:?}", counts.collected);
+    println!("  damaged words {:?}, places by word {:?}", counts.words, counts.places);
     println!("  by row of the table: {verdicts:?}");
     println!("  accepted by kind: {accepted:?}");
     println!("  changed ledgers that are sound: {damaged_sound}");
@@ -32,27 +36,42 @@ fn all_given(answers: &Answers, expected: impl IntoIterator<Item = u64>, least: 
     }
 }
 
+/// Empty and full stores, and all between.
+fn every_store(counts: &Counts, least: usize) {
+    all_given(&counts.stored, 0..=PLACES as u64, least);
+}
+
 #[test]
 fn ledgers_agree_from_fresh() {
-    let counts = agree(20_240_621, Course::Fresh, 700);
+    let counts = agree(20_240_621, Course::Fresh, 400);
     all_given(&counts.answers, [0, 2, 3], 1_000);
     all_given(&counts.verdicts, (0..=17).filter(|row| *row != 1), 1_000);
     all_given(&counts.accepted, 0..=9, 1_000);
-    // Empty and full stores, and all between.
-    all_given(&counts.stored, 0..=64, 100);
+    every_store(&counts, 100);
+    all_given(&counts.collected, [0, PLACES as u64], 50);
+}
+
+#[test]
+fn ledgers_agree_from_stocked_ones() {
+    let counts = agree(20_240_627, Course::Stocked, 200);
+    all_given(&counts.verdicts, (0..=17).filter(|row| *row != 1), 100);
+    all_given(&counts.accepted, 0..=9, 100);
+    every_store(&counts, 100);
 }
 
 #[test]
 fn ledgers_agree_near_the_highest_numbers() {
-    let counts = agree(20_240_623, Course::High, 200);
+    let counts = agree(20_240_623, Course::High, 150);
     all_given(&counts.verdicts, (0..=17).filter(|row| *row != 1), 100);
     all_given(&counts.accepted, 0..=9, 100);
 }
 
 #[test]
 fn damaged_ledgers_are_judged_alike() {
-    let counts = agree(20_240_625, Course::Damaged, 300);
+    let counts = agree(20_240_625, Course::Damaged, 250);
     all_given(&counts.verdicts, 0..=17, 100);
     all_given(&counts.verdicts, [0, 1], 1_000);
+    all_given(&counts.words, 0..WORDS as u64, 1_000);
+    all_given(&counts.places, 0..WORDS as u64, 1_000);
     assert!(counts.damaged_sound >= 1_000, "{counts:?}");
 }

@@ -8,6 +8,7 @@ use second::compare::Answers;
 use second::depot;
 use second::generate::guided::Guide;
 use second::ledger::Ledger;
+use second::limits::{HOLDS, MANIFESTS, NAMES, PLACES};
 use second::proved;
 use second::random::Random;
 use second::raw::raw;
@@ -23,6 +24,9 @@ fn told(label: &str, compared: Result<Counts, String>) -> Counts {
     println!("{label}: {runs} runs, {steps} steps, endings {answers:?}");
     println!("  by row of the table: {verdicts:?}");
     println!("  accepted by kind: {accepted:?}");
+    println!("  by stored objects: {:?}", counts.objects);
+    println!("  commits by names: {:?}", counts.committed);
+    println!("  collections by names: {:?}", counts.collected);
     counts
 }
 
@@ -49,9 +53,16 @@ fn all_given(answers: &Answers, expected: impl IntoIterator<Item = u64>, least: 
 /// Empty and full stores, the fresh ledger's one manifest and all nine, no
 /// hold and all eight, and all between.
 fn every_size(counts: &Counts, least: usize) {
-    all_given(&counts.objects, 0..=64, least);
-    all_given(&counts.manifests, 1..=9, least);
-    all_given(&counts.holds, 0..=8, least);
+    all_given(&counts.objects, 0..=PLACES as u64, least);
+    all_given(&counts.manifests, 1..=MANIFESTS as u64, least);
+    all_given(&counts.holds, 0..=HOLDS as u64, least);
+}
+
+/// Lists of every length, also one name too long, and the shortest and the
+/// longest collection.
+fn every_list(counts: &Counts, least: usize) {
+    all_given(&counts.committed, 0..=NAMES as u64 + 1, least);
+    all_given(&counts.collected, [0, PLACES as u64], least);
 }
 
 fn written(verdict: &Verdict) -> Vec<u8> {
@@ -104,6 +115,7 @@ fn runs_agree_from_fresh() {
     all_given(&counts.verdicts, (0..=17).filter(|row| *row != 1), 1_000);
     all_given(&counts.accepted, 0..=9, 1_000);
     every_size(&counts, 1_000);
+    every_list(&counts, 100);
 }
 
 #[test]
@@ -113,6 +125,7 @@ fn runs_agree_on_the_ledger_of_the_run_before() {
     all_given(&counts.verdicts, (0..=17).filter(|row| *row != 1), 1_000);
     all_given(&counts.accepted, 0..=9, 1_000);
     every_size(&counts, 1_000);
+    every_list(&counts, 100);
 }
 
 #[test]

@@ -1,16 +1,16 @@
-//! Nanoseconds per read and per write of a PUT and of a COMMIT of 16 names,
-//! by the proved library's C calls and by the second program's functions.
+//! Nanoseconds per read and per write of a PUT and of a COMMIT of 16 and of 64
+//! names, by the proved library's C calls and by the second program's functions.
 
 use std::hint::black_box;
 use std::time::Instant;
 
 use second::compare::records::STEP;
+use second::limits::{Limits, LONGEST_STEP, NAMES};
 use second::proved;
-use second::records::{read_step, write_step, Kind, Role, Step, NAMES};
+use second::records::{read_step, write_step, Kind, Role, Step};
 
 const ROUNDS: usize = 21;
 const CALLS: u32 = 200_000;
-const ROOM: usize = 256;
 
 /// The nanoseconds of one call in each round, in rising order.
 fn rounds(mut call: impl FnMut()) -> Vec<f64> {
@@ -40,7 +40,7 @@ fn print(label: &str, proved: Vec<f64>, second: Vec<f64>) {
 
 fn measure(label: &str, step: &Step) {
     let record = write_step(step).expect("the step is well formed");
-    let (mut numbers, mut list, mut out) = ([0; STEP], [0; NAMES], [0; ROOM]);
+    let (mut numbers, mut list, mut out) = ([0; STEP], [0; NAMES], [0; LONGEST_STEP]);
     assert_eq!(proved::read_step(&record, &mut numbers, &mut list), 0);
     assert_eq!(read_step(&record).as_ref(), Some(step));
     assert_eq!(proved::write_step(&numbers, &list, &mut out), record.len() as u64);
@@ -72,5 +72,8 @@ fn main() {
     let commit = Kind::Commit { epoch: 3, slot: 12_345 };
     println!("nanoseconds per call, median of {ROUNDS} rounds of {CALLS} calls (least to most)");
     measure("PUT", &Step { time, kind: put, list: Vec::new() });
-    measure("COMMIT of 16", &Step { time, kind: commit, list: (1001..1017).collect() });
+    for names in [Limits::OLD.names, NAMES] {
+        let list = (1001..).take(names).collect();
+        measure(&format!("COMMIT of {names}"), &Step { time, kind: commit, list });
+    }
 }

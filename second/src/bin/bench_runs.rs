@@ -9,13 +9,13 @@ use std::time::Instant;
 
 use second::generate::guided::Guide;
 use second::ledger::Ledger;
+use second::limits::LONGEST_VERDICT;
 use second::proved;
 use second::records::write_step;
 use second::run::run;
 
 const STEPS: u32 = 100_000;
 const ROUNDS: usize = 11;
-const LONGEST_VERDICT: usize = 522;
 
 /// A trace of that many steps, and how many of them are accepted.
 fn trace() -> (Vec<u8>, u32) {

@@ -1,8 +1,9 @@
 //! Nanoseconds per accepted step of each kind, on a ledger of 32 objects, 4
 //! manifests and 4 holds: by the proved library's C call, by the second
 //! program through the same call, and by the second program's ledger alone.
-//! Then a COLLECT with a full store and nine full manifests, and a sale and a
-//! route card on the first ledger, the last two by the first two ways.
+//! Then a COLLECT on a ledger that was full at the old limits; a COLLECT, a
+//! LOOK and a COMMIT on one that is full now; and a sale and a route card on the
+//! first ledger, the last two by the first two ways.
 //!
 //! The first two judge each time whether the ledger is sound, and the copy of
 //! the ledger before each call is in all three.
@@ -15,13 +16,16 @@ use second::compare::ledgers::{self, ledger_numbers, StepCall, LEDGER};
 use second::compare::records::{put_verdict, step_numbers, STEP, VERDICT};
 use second::desk::{write_sheet, Sheet};
 use second::ledger::Ledger;
+use second::limits::{Limits, HOLDS, MANIFESTS, NAMES, PLACES};
 use second::proved;
 use second::raw::raw;
-use second::records::{Kind, Role, Step, Verdict, NAMES, PLACES};
+use second::records::{Kind, Role, Step, Verdict};
 
 const ROUNDS: usize = 21;
 const CALLS: u32 = 1_000;
 const TIME: u64 = 1_700_000_000;
+/// The number of the first manifest behind the fences.
+const FIRST: u64 = 4;
 
 /// The nanoseconds of one call in each round, in rising order.
 fn rounds(mut call: impl FnMut()) -> Vec<f64> {
@@ -52,24 +56,29 @@ fn accept(ledger: &mut Ledger, kind: Kind, list: &[u64]) {
     assert_eq!(ledger.step(&at(kind, list)).code(), 0, "{kind:?}");
 }
 
-/// 64 objects, manifests 4 to 12 of 16 names each and a hold on all but the
-/// last. Objects 49 to 64 are named by none, and dead: the writer's epoch is 2.
-fn full() -> Ledger {
+/// As many objects as there are places, nine manifests of as many names as they
+/// may have, from number 4, and a hold on all but the last. Each names a quarter
+/// of them that the one before does not, so three quarters of the objects are
+/// named; the others are dead, for the writer's epoch is 2. Of the first
+/// currency is object 1 alone, the lowest name of manifest 4.
+fn full(limits: Limits, currencies: [u16; 2]) -> Ledger {
     let mut ledger = fenced();
-    for object in 1..=PLACES as u64 {
-        let put = Kind::Put { role: Role::Writer, epoch: 1, object, currency: 978 };
-        accept(&mut ledger, put, &[]);
+    let (places, names) = (limits.places as u64, limits.names as u64);
+    for object in 1..=places {
+        let currency = currencies[usize::from(object != 1)];
+        accept(&mut ledger, Kind::Put { role: Role::Writer, epoch: 1, object, currency }, &[]);
     }
-    for slot in 4..=12 {
-        let first = 4 * (slot - 4) + 1;
-        let list: Vec<u64> = (first..first + NAMES as u64).collect();
+    let last = FIRST + HOLDS as u64;
+    for slot in FIRST..=last {
+        let lowest = names / 4 * (slot - FIRST) + 1;
+        let list: Vec<u64> = (lowest..lowest + names).collect();
         accept(&mut ledger, Kind::Commit { epoch: 2, slot }, &list);
-        if slot < 12 {
+        if slot < last {
             accept(&mut ledger, Kind::Hold { hold: slot, manifest: slot, expiry: 0 }, &[]);
         }
     }
     let held = (ledger.objects.len(), ledger.manifests.len(), ledger.holds.len());
-    assert_eq!(held, (PLACES, 9, 8));
+    assert_eq!(held, (limits.places, MANIFESTS, HOLDS));
     ledger
 }
 
@@ -128,7 +137,7 @@ fn measure(label: &str, ledger: &Ledger, asked: &Step) {
 fn print(label: &str, proved: &[f64], second: &[f64], alone: &str) {
     let (one, other) = (proved[ROUNDS / 2], second[ROUNDS / 2]);
     println!(
-        "{label:<14} {one:8.0} ({:.0} to {:.0})  {other:8.0} ({:.0} to {:.0})  {alone:>8}  {:6.2}",
+        "{label:<38} {one:8.0} ({:.0} to {:.0})  {other:8.0} ({:.0} to {:.0})  {alone:>8}  {:6.2}",
         proved[0],
         proved[ROUNDS - 1],
         second[0],
@@ -198,7 +207,7 @@ fn main() {
     });
     println!("nanoseconds per step, median of {ROUNDS} rounds of {CALLS} (least to most)");
     println!("a copy of the ledger's {LEDGER} numbers alone: {:.0}", copies[ROUNDS / 2]);
-    println!("kind           proved  second, same call  second, ledger alone  proved to second");
+    println!("{:<38}   proved  second, same call  second, ledger alone  proved to second", "kind");
     let names: Vec<u64> = (17..33).collect();
     let put = Kind::Put { role: Role::Writer, epoch: 2, object: 33, currency: 978 };
     let look = Kind::Look { currency: 978, hold: 5 };
@@ -213,6 +222,21 @@ fn main() {
     measure("LIST", &ledger, &at(Kind::List { hold: 5 }, &[]));
     measure("LOOK", &ledger, &at(look, &[]));
     measure("COLLECT", &ledger, &at(Kind::Collect, &[]));
-    measure("COLLECT, full", &full(), &at(Kind::Collect, &[]));
+    let old = full(Limits::OLD, [978, 978]);
+    measure("COLLECT, 64 objects, 9 manifests of 16", &old, &at(Kind::Collect, &[]));
+    measure_full();
     measure_desk(&numbers);
+}
+
+/// On the ledger that is full now: the look goes through a whole list, and the
+/// commit names the objects that were dead.
+fn measure_full() {
+    let ledger = full(Limits::NOW, [756, 978]);
+    let look = Kind::Look { currency: 756, hold: FIRST };
+    let slot = ledger.current().0 + 1;
+    let names: Vec<u64> = (1..=PLACES as u64).rev().take(NAMES).collect();
+    let rising: Vec<u64> = names.into_iter().rev().collect();
+    measure("COLLECT, full", &ledger, &at(Kind::Collect, &[]));
+    measure("LOOK, full", &ledger, &at(look, &[]));
+    measure("COMMIT, full", &ledger, &at(Kind::Commit { epoch: 2, slot }, &rising));
 }

@@ -68,6 +68,8 @@ fn main() -> ExitCode {
     println!("steps by stored objects: {:?}", counts.objects);
     println!("steps by manifests: {:?}", counts.manifests);
     println!("steps by holds: {:?}", counts.holds);
+    println!("commits by names: {:?}", counts.committed);
+    println!("collections by names: {:?}", counts.collected);
     println!("runs on changed ledgers that are sound: {}", counts.damaged_sound);
     println!("{} differences", differences.len());
     for difference in &differences {

@@ -1,8 +1,8 @@
 //! Comparison of two sale desks, given as functions: document 02, request 2.
 //!
 //! Both sides keep the calling convention of the proved library's C calls: a
-//! ledger is 529 numbers, a rate sheet four beside its bytes, a sale two, and
-//! an entry of a route card three.
+//! ledger is `LEDGER` numbers, a rate sheet four beside its bytes, a sale two,
+//! and an entry of a route card three.
 
 pub mod cards;
 pub mod sales;
@@ -22,7 +22,7 @@ use crate::run::run;
 pub const SHEET: usize = 4;
 pub const SALE: usize = 2;
 pub const ENTRY: usize = 3;
-/// The most entries of a card that is lent.
+/// The most entries of a card that is lent, a limit of its own.
 pub const ENTRIES: usize = 64;
 /// The answers where the call is done, where it says 2, and where too few
 /// elements are lent or too many entries.

@@ -2,25 +2,30 @@
 //! "What the ledger holds" to "When a step is turned away".
 //!
 //! Both sides keep the calling convention of the proved library's C calls: a
-//! ledger is 529 numbers, a step and a verdict are as in the record calls.
+//! ledger is `LEDGER` numbers, a step and a verdict are as in the record calls.
 
 use crate::compare::records::{
     kind_of, lent, list_of, put_verdict, replacement, step_numbers, STEP, VERDICT,
 };
 use crate::compare::{add, count, Answers, MARGIN};
 use crate::generate::guided::Guide;
-use crate::ledger::{Ledger, Manifest, HOLDS, MANIFESTS};
+use crate::generate::stocked;
+use crate::ledger::{Ledger, Manifest};
+use crate::limits::{HOLDS, MANIFESTS, NAMES, PLACES, WORD, WORDS};
 use crate::random::Random;
 use crate::raw::{self, Raw, RawHold, RawManifest, RawObject};
-use crate::records::{Kind, Step, NAMES, PLACES};
+use crate::records::{Kind, Step};
 
+/// The number of COLLECT among the kinds.
+const COLLECT: u64 = 9;
 /// How many numbers an object, a manifest and a hold have.
 const OBJECT: usize = 5;
 const MANIFEST: usize = 4 + NAMES;
 const HOLD: usize = 3;
-/// Where the objects, the manifests and the holds begin; a count stands
-/// before the manifests and before the holds.
-const OBJECTS_AT: usize = 3;
+/// Where the occupancy words, the objects, the manifests and the holds begin; a
+/// count stands before the manifests and before the holds.
+const WORDS_AT: usize = 2;
+const OBJECTS_AT: usize = WORDS_AT + WORDS;
 const MANIFESTS_AT: usize = OBJECTS_AT + PLACES * OBJECT + 1;
 const HOLDS_AT: usize = MANIFESTS_AT + MANIFESTS * MANIFEST + 1;
 /// How many numbers a ledger has.
@@ -46,10 +51,12 @@ pub fn raw_of(numbers: &[u64]) -> Raw {
         length: m[3],
         names: m[4..].to_vec(),
     };
+    let mut occupancy = [0; WORDS];
+    occupancy.copy_from_slice(&numbers[WORDS_AT..OBJECTS_AT]);
     Raw {
         clock: numbers[0],
         highest_collected: numbers[1],
-        occupancy: numbers[2],
+        occupancy,
         objects: objects.map(object).collect(),
         manifest_count: numbers[MANIFESTS_AT - 1],
         manifests: manifests.map(manifest).collect(),
@@ -59,7 +66,8 @@ pub fn raw_of(numbers: &[u64]) -> Raw {
 }
 
 pub fn ledger_numbers(raw: &Raw) -> Vec<u64> {
-    let mut numbers = vec![raw.clock, raw.highest_collected, raw.occupancy];
+    let mut numbers = vec![raw.clock, raw.highest_collected];
+    numbers.extend(raw.occupancy);
     for object in &raw.objects {
         let RawObject { number, role, epoch, currency, named } = *object;
         numbers.extend([number, role, epoch, currency, named]);
@@ -142,6 +150,12 @@ pub struct Counts {
     pub damaged_sound: usize,
     /// Accepted steps by the count of objects before them.
     pub stored: Answers,
+    /// Collections by the length of their list.
+    pub collected: Answers,
+    /// Changed ledgers by the occupancy word that was changed, and by the one
+    /// that tells of a place that was changed.
+    pub words: Answers,
+    pub places: Answers,
 }
 
 impl Counts {
@@ -153,9 +167,35 @@ impl Counts {
             (&mut self.verdicts, other.verdicts),
             (&mut self.accepted, other.accepted),
             (&mut self.stored, other.stored),
+            (&mut self.collected, other.collected),
+            (&mut self.words, other.words),
+            (&mut self.places, other.places),
         ];
         for (sum, counts) in pairs {
             add(sum, counts);
+        }
+    }
+
+    /// An accepted step of that kind, on that ledger.
+    fn add_accepted(&mut self, kind: u64, ledger: &[u64], left: &Left) {
+        count(&mut self.accepted, kind);
+        let words = ledger[WORDS_AT..OBJECTS_AT].iter();
+        count(&mut self.stored, words.map(|word| u64::from(word.count_ones())).sum());
+        if kind == COLLECT {
+            count(&mut self.collected, left.verdict[MARGIN + VERDICT - 1]);
+        }
+    }
+
+    fn add_damage(&mut self, sound: &[u64], damaged: &[u64]) {
+        for word in 0..WORDS {
+            if sound[WORDS_AT + word] != damaged[WORDS_AT + word] {
+                count(&mut self.words, word as u64);
+            }
+            let first = OBJECTS_AT + word * WORD * OBJECT;
+            let places = first..first + WORD * OBJECT;
+            if sound[places.clone()] != damaged[places] {
+                count(&mut self.places, word as u64);
+            }
         }
     }
 }
@@ -227,10 +267,25 @@ impl Lent<'_> {
 pub enum Course {
     /// From the fresh ledger.
     Fresh,
+    /// From a sound ledger with any number of objects, manifests and holds.
+    Stocked,
     /// From a sound ledger whose numbers are near 2^64-1.
     High,
-    /// From the fresh ledger, and one number is changed before many steps.
+    /// As Fresh or Stocked, and one number is changed before many steps.
     Damaged,
+}
+
+impl Course {
+    /// The ledger before the first step.
+    pub fn start(self, random: &mut Random) -> Ledger {
+        match self {
+            Course::Fresh => Ledger::fresh(),
+            Course::Stocked => stocked::ledger(random),
+            Course::High => high(random),
+            Course::Damaged if random.once_in(2) => stocked::ledger(random),
+            Course::Damaged => Ledger::fresh(),
+        }
+    }
 }
 
 /// Compares two sides on a sequence of that many steps.
@@ -244,8 +299,8 @@ pub fn compare_sequence(
 ) -> Result<Counts, String> {
     let mut counts = Counts::default();
     let mut numbers = compare_fresh(random, first, second)?;
-    if course == Course::High {
-        numbers = ledger_numbers(&raw::raw(&high(random)));
+    if course != Course::Fresh {
+        numbers = ledger_numbers(&raw::raw(&course.start(random)));
     }
     let mut ledger = raw::from_raw(&raw_of(&numbers)).ok_or("the start is not sound")?;
     for _ in 0..length {
@@ -253,6 +308,7 @@ pub fn compare_sequence(
         let mut before = numbers.clone();
         if damaged {
             damage(random, &mut before);
+            counts.add_damage(&numbers, &before);
         }
         let step = asked(random, &guide.next(&ledger), course);
         let left = compare_step(random, &before, &step, first, second)?;
@@ -264,8 +320,7 @@ pub fn compare_sequence(
         let row = if left.verdict[MARGIN] == 0 { left.verdict[MARGIN + 1] } else { 0 };
         count(&mut counts.verdicts, row);
         if row == 0 {
-            count(&mut counts.accepted, step.0[0]);
-            count(&mut counts.stored, before[2].count_ones().into());
+            counts.add_accepted(step.0[0], &before, &left);
         }
         let changed = damaged && before != numbers;
         counts.damaged_sound += usize::from(changed && row != 1);
@@ -343,7 +398,9 @@ fn asked(random: &mut Random, step: &Step, course: Course) -> (Vec<u64>, Vec<u64
 /// A sound ledger with one manifest, whose numbers are near 2^64-1.
 pub fn high(random: &mut Random) -> Ledger {
     let mut near = |below: u64| u64::MAX - random.below(below);
-    let (clock, collected, number) = (near(2_000), near(1_000), near(300));
+    let (clock, number) = (near(2_000), near(300));
+    // Most often the store can be filled some times before the numbers end.
+    let collected = near(16 * PLACES as u64);
     let writer = match near(3) % 3 {
         0 => number / 2,
         1 => number - 1,
@@ -362,23 +419,34 @@ pub fn damage(random: &mut Random, numbers: &mut [u64]) {
     let place = damaged_place(random, numbers);
     let other = damaged_place(random, numbers);
     match random.below(8) {
-        0 => numbers[place] ^= 1 << random.below(64),
+        0 => numbers[place] ^= 1 << random.below(u64::BITS.into()),
         1 => numbers[place] ^= 1 << random.below(4),
         2 => numbers.swap(place, other),
         3 => numbers[place] = numbers[other],
         4 => numbers[place] = numbers[place].wrapping_add(1),
         5 => numbers[place] = numbers[place].wrapping_sub(1),
         6 => numbers[place] = replacement(random, numbers[0], numbers[1]),
-        _ => {
-            let (start, size, places) = random.pick(&[
-                (OBJECTS_AT, OBJECT, PLACES),
-                (MANIFESTS_AT, MANIFEST, MANIFESTS),
-                (HOLDS_AT, HOLD, HOLDS),
-            ]);
-            let (one, two) = (random.index(places), random.index(places));
-            for entry in 0..size {
-                numbers.swap(start + one * size + entry, start + two * size + entry);
-            }
+        _ => swap_places(random, numbers),
+    }
+}
+
+/// Swaps two objects, two manifests or two holds, unused ones too. Two objects
+/// are at times swapped with their bits, which leaves the ledger sound.
+fn swap_places(random: &mut Random, numbers: &mut [u64]) {
+    let (start, size, places) = random.pick(&[
+        (OBJECTS_AT, OBJECT, PLACES),
+        (MANIFESTS_AT, MANIFEST, MANIFESTS),
+        (HOLDS_AT, HOLD, HOLDS),
+    ]);
+    let (one, two) = (random.index(places), random.index(places));
+    for entry in 0..size {
+        numbers.swap(start + one * size + entry, start + two * size + entry);
+    }
+    let bit =
+        |numbers: &[u64], place: usize| numbers[WORDS_AT + place / WORD] >> (place % WORD) & 1;
+    if size == OBJECT && random.once_in(2) && bit(numbers, one) != bit(numbers, two) {
+        for place in [one, two] {
+            numbers[WORDS_AT + place / WORD] ^= 1 << (place % WORD);
         }
     }
 }
@@ -387,8 +455,9 @@ pub fn damage(random: &mut Random, numbers: &mut [u64]) {
 fn damaged_place(random: &mut Random, numbers: &[u64]) -> usize {
     match random.below(8) {
         0 => random.index(LEDGER),
-        1 => random.pick(&[0, 1, 2, MANIFESTS_AT - 1, HOLDS_AT - 1]),
-        2 => MANIFESTS_AT + random.index(LEDGER - MANIFESTS_AT),
+        1 => random.pick(&[0, 1, MANIFESTS_AT - 1, HOLDS_AT - 1]),
+        2 => WORDS_AT + random.index(WORDS),
+        3 => MANIFESTS_AT + random.index(LEDGER - MANIFESTS_AT),
         _ => {
             let start = random.index(LEDGER);
             let mut places = (start..LEDGER).chain(0..start);

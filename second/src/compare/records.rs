@@ -7,14 +7,35 @@
 
 use crate::compare::{Answers, MARGIN};
 use crate::generate::{self, damaged, loose, number};
+use crate::limits::{LONGEST_VERDICT, NAMES, PLACES};
 use crate::random::Random;
-use crate::records::{self, Kind, Next, Role, Step, Verdict, NAMES, PLACES};
+use crate::records::{self, Kind, Next, Role, Step, Verdict, LAST_CODE};
 
 /// How many numbers a step and a verdict have.
 pub const STEP: usize = 11;
 pub const VERDICT: usize = 3;
 /// The longest verdict, and some bytes more.
-const LONGEST_ROOM: usize = 530;
+const LONGEST_ROOM: usize = LONGEST_VERDICT + 8;
+/// Numbers on both sides of a limit, of the last code, and of a byte, also
+/// with the last code in a byte's last bits.
+const EDGES: [u64; 16] = [
+    9,
+    10,
+    LAST_CODE as u64 - 1,
+    LAST_CODE as u64,
+    LAST_CODE as u64 + 1,
+    NAMES as u64 - 1,
+    NAMES as u64,
+    NAMES as u64 + 1,
+    PLACES as u64 - 1,
+    PLACES as u64,
+    PLACES as u64 + 1,
+    0xFF,
+    0x100,
+    0x100 + LAST_CODE as u64,
+    999,
+    1000,
+];
 /// In the counts of answers, any length.
 pub const LENGTH: u64 = 4;
 
@@ -283,8 +304,8 @@ impl Records {
 /// or near the time or the list's length.
 pub fn replacement(random: &mut Random, time: u64, length: u64) -> u64 {
     match random.below(4) {
-        0 => random.pick(&[0, 1, 2, 9, 10, 16, 17, 18, 63, 64, 65, 255, 256, 273]),
-        1 => random.pick(&[999, 1000, 65_535, 65_536, 66_514, 1 << 32, 1 << 61, u64::MAX]),
+        0 => random.pick(&EDGES),
+        1 => random.pick(&[0, 1, 2, 65_535, 65_536, 66_514, 1 << 32, 1 << 61, u64::MAX]),
         2 => random.pick(&[time, length]).wrapping_add(random.below(3)).wrapping_sub(1),
         _ => number(random),
     }

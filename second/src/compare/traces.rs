@@ -2,31 +2,37 @@
 //! "Records and names", the paragraph that begins "The record is torn if".
 //!
 //! Both sides keep the calling convention of the proved library's C calls: a
-//! ledger is 529 numbers, and the bytes read and written are two counts.
+//! ledger is `LEDGER` numbers, and the bytes read and written are two counts.
 
 use crate::compare::ledgers::{damage, high, ledger_numbers, raw_of, LEDGER};
 use crate::compare::records::lent;
 use crate::compare::{add, count, Answers, MARGIN};
 use crate::depot;
 use crate::generate::guided::Guide;
-use crate::generate::{self, broken, damaged, loose};
+use crate::generate::{self, broken, damaged, loose, stocked};
 use crate::ledger::Ledger;
+use crate::limits::{COLLECTED, COMMIT, LONGEST_VERDICT, NAME, PLACES};
 use crate::random::Random;
 use crate::raw::{self, from_raw};
-use crate::records::{next_record, write_step, Kind, Next, Role, Step, PLACES};
+use crate::records::{next_record, write_step, Kind, Next, Role, Step};
 use crate::run::{self, End, Run};
 
 /// How many counts a run gives: the bytes read and the bytes written.
 pub const COUNTS: usize = 2;
-/// The largest room in which the short traces are run; every smaller one is
-/// tried too.
-pub const LONGEST_ROOM: usize = 600;
+/// The largest room in which the fixed traces are run, the longest verdict and
+/// some more; every smaller one is tried too.
+pub const LONGEST_ROOM: usize = LONGEST_VERDICT + 78;
+/// The largest room in which the other short traces are run.
+pub const SHORT_ROOM: usize = 600;
 /// The most records of a run that begins where another ended.
 const PIECE: usize = 60;
 /// The answers where the room ends the run, and where too few elements are
 /// lent.
 const FULL: u64 = 2;
 const SHORT: u64 = 3;
+/// The outer tags of the kinds that have lists or answer with one.
+const COMMIT_TAG: u8 = 0x12;
+const COLLECT_TAG: u8 = 0x19;
 
 /// 0 whole, 1 torn, 2 full, with the verdicts in the output and the two
 /// counts; 3 where too few counts are lent.
@@ -87,6 +93,10 @@ pub struct Counts {
     pub objects: Answers,
     pub manifests: Answers,
     pub holds: Answers,
+    /// COMMIT records, refused ones too, and accepted COLLECTs by how many names
+    /// their list has.
+    pub committed: Answers,
+    pub collected: Answers,
     /// Runs on a changed ledger that is sound nevertheless.
     pub damaged_sound: usize,
     /// Runs whose room was that of all verdicts, and one byte less.
@@ -108,6 +118,8 @@ impl Counts {
             (&mut self.objects, other.objects),
             (&mut self.manifests, other.manifests),
             (&mut self.holds, other.holds),
+            (&mut self.committed, other.committed),
+            (&mut self.collected, other.collected),
         ];
         for (sum, counts) in pairs {
             add(sum, counts);
@@ -128,6 +140,11 @@ impl Counts {
             if row == 0 {
                 count(&mut self.accepted, u64::from(trace[0]) - 0x10);
             }
+            match trace[0] {
+                COMMIT_TAG => count(&mut self.committed, names(step, COMMIT)),
+                COLLECT_TAG if row == 0 => count(&mut self.collected, names(verdict, COLLECTED)),
+                _ => {}
+            }
             if let Some(sizes) = before.next() {
                 count(&mut self.objects, sizes.objects);
                 count(&mut self.manifests, sizes.manifests);
@@ -136,6 +153,12 @@ impl Counts {
             (trace, out) = (&trace[step..], &out[verdict..]);
         }
     }
+}
+
+/// How many names a record of that length has, of which so many bytes are
+/// something else.
+fn names(length: usize, beside: usize) -> u64 {
+    (length.saturating_sub(beside) / NAME) as u64
 }
 
 /// All that is lent to a run. The output, the counts and the margins are
@@ -277,13 +300,15 @@ impl Guided {
     }
 }
 
-/// The step's record, now and then damaged; a record with any values where no
-/// reader takes the step.
+/// The step's record, now and then damaged. Where no reader takes the step, a
+/// COMMIT is written with its list nevertheless; for another kind a record with
+/// any values stands.
 fn record(random: &mut Random, step: &Step) -> Vec<u8> {
-    match write_step(step) {
-        Some(record) if random.once_in(50) => broken(random, &record),
-        Some(record) => record,
-        None => loose::step(random),
+    match (write_step(step), step.kind) {
+        (Some(record), _) if random.once_in(50) => broken(random, &record),
+        (Some(record), _) => record,
+        (None, Kind::Commit { epoch, slot }) => loose::commit(step.time, epoch, slot, &step.list),
+        (None, _) => loose::step(random),
     }
 }
 
@@ -309,7 +334,7 @@ fn room(random: &mut Random, written: usize) -> usize {
     match random.below(8) {
         0 => random.index(written + 1),
         1 | 2 => written.saturating_sub(1),
-        3 | 4 => written + 1 + random.index(LONGEST_ROOM),
+        3 | 4 => written + 1 + random.index(SHORT_ROOM),
         _ => written,
     }
 }
@@ -319,12 +344,15 @@ fn room(random: &mut Random, written: usize) -> usize {
 pub enum Course {
     /// One run from the fresh ledger.
     Fresh,
-    /// Runs of a few records, each on the ledger that the one before left.
+    /// Runs of a few records, each on the ledger that the one before left; the
+    /// first on the fresh ledger, or on one with any number of objects,
+    /// manifests and holds.
     Pieces,
     /// As Pieces, from a sound ledger whose numbers are near 2^64-1.
     High,
-    /// Damaged traces, each on the ledger that the one before leads to without
-    /// the damage, or on the fresh one.
+    /// Damaged traces, the first on a ledger as in Pieces, the others each on the
+    /// ledger that the one before leads to without the damage, or on the fresh
+    /// one.
     DamagedTraces,
     /// As Pieces, and one number of the ledger is changed before most runs.
     DamagedLedgers,
@@ -394,6 +422,8 @@ pub fn compare_sequence(
     let mut counts = Counts::default();
     let mut ledger = match course {
         Course::High => high(random),
+        Course::Fresh => Ledger::fresh(),
+        _ if random.once_in(2) => stocked::ledger(random),
         _ => Ledger::fresh(),
     };
     let mut left = length;
@@ -427,9 +457,9 @@ pub fn compare_sequence(
 /// A trace and the ledger that it is run on, `None` for the fresh one.
 type Short = (Option<Vec<u64>>, Vec<u8>);
 
-/// Compares two sides on short traces, on the fixed ones and on `count`
-/// random ones, in every room up to 600; where all verdicts fit into that, the
-/// run must be full exactly in the rooms below.
+/// Compares two sides on short traces in every room, on the fixed ones up to
+/// `LONGEST_ROOM` and on `count` random ones up to `SHORT_ROOM`; where all
+/// verdicts fit into that, the run must be full exactly in the rooms below.
 pub fn compare_rooms(
     random: &mut Random,
     guide: &mut Guide,
@@ -438,13 +468,14 @@ pub fn compare_rooms(
     second: Calls,
 ) -> Result<Counts, String> {
     let mut counts = Counts::default();
-    let mut traces = fixed();
-    traces.extend((0..count).map(|_| short(random, guide)));
-    for (ledger, trace) in &traces {
+    let fixed = fixed().into_iter().map(|trace| (trace, LONGEST_ROOM));
+    let mut traces: Vec<(Short, usize)> = fixed.collect();
+    traces.extend((0..count).map(|_| (short(random, guide), SHORT_ROOM)));
+    for ((ledger, trace), longest) in &traces {
         let ledger = ledger.as_deref();
-        let most = Lent::new(random, ledger, trace, LONGEST_ROOM).compare(first, second)?;
+        let most = Lent::new(random, ledger, trace, *longest).compare(first, second)?;
         let (written, all) = (most.output().len(), most.answer != FULL);
-        for room in 0..=LONGEST_ROOM {
+        for room in 0..=*longest {
             let left = Lent::new(random, ledger, trace, room).compare(first, second)?;
             counts.add_run(trace, &left, &[]);
             if all && (left.answer == FULL) != (room < written) {
@@ -508,8 +539,9 @@ fn all_dead() -> Ledger {
 /// Some guided records from the fresh ledger or from a later one, whose
 /// verdicts most often fit the rooms tried; at times the end is torn.
 fn short(random: &mut Random, guide: &mut Guide) -> Short {
-    let (mut ledger, fresh) = (Ledger::fresh(), random.once_in(3));
-    if !fresh {
+    let fresh = random.once_in(3);
+    let mut ledger = if fresh { Ledger::fresh() } else { stocked::ledger(random) };
+    if !fresh && random.once_in(2) {
         let length = 100 + random.index(400);
         Guided::new(random, guide, &mut ledger, length);
     }
@@ -530,7 +562,7 @@ pub fn compare_lent(random: &mut Random, first: Calls, second: Calls) -> Result<
     let sizes = [0, 1, LEDGER - 2, LEDGER - 1, LEDGER, LEDGER + 1, LEDGER + 7];
     let sizes = sizes.into_iter().chain((0..20).map(|_| lent(random, LEDGER)));
     for size in sizes.map(Some).chain([None]).collect::<Vec<_>>() {
-        for (counts, room) in (0..=COUNTS + 2).flat_map(|c| [(c, 0), (c, 100), (c, 600)]) {
+        for (counts, room) in (0..=COUNTS + 2).flat_map(|c| [(c, 0), (c, 100), (c, SHORT_ROOM)]) {
             for trace in [&trace[..], &trace[..40], &[]] {
                 let mut numbers = fresh.clone();
                 numbers.resize(size.unwrap_or(0), random.any());

@@ -2,14 +2,16 @@
 //! steps" and "When a step is turned away".
 //!
 //! The store is filled and emptied in phases, and a part of the steps is aimed
-//! at one row of the table each.
+//! at one row of the table each. How many objects and names are allowed is told
+//! by the ledger.
 
 mod changes;
 
 use super::{expiry, number, role, step_at};
-use crate::ledger::Ledger;
+use crate::ledger::{Ledger, Object};
+use crate::limits::Limits;
 use crate::random::Random;
-use crate::records::{Kind, Role, Step, LAST_CODE, NAMES};
+use crate::records::{Kind, Role, Step, LAST_CODE};
 use changes::{
     break_value, change_currency, change_epoch, change_hold, change_object, change_slot,
 };
@@ -19,12 +21,15 @@ const CURRENCIES: [u16; 7] = [0, 1, 756, 840, 978, 985, 999];
 /// What most steps of a stretch of the sequence do.
 #[derive(Debug, Clone, Copy, PartialEq, Eq)]
 enum Phase {
-    /// Puts, until the store is full.
+    /// Puts alone until the store has as many objects as were set as the goal,
+    /// then mostly puts.
     Fill,
     /// New manifests and holds on them, until eight hold eight manifests.
     Hold,
     /// Expiries, fences and collections.
     Empty,
+    /// No collection until all objects are dead.
+    Sweep,
     /// Every kind alike.
     Mix,
 }
@@ -60,17 +65,18 @@ const ALL: [Sort; 10] = [
 pub struct Guide {
     random: Random,
     phase: Phase,
-    left: u64,
+    left: usize,
+    goal: usize,
 }
 
 impl Guide {
     pub fn new(seed: u64) -> Self {
-        Guide { random: Random::new(seed), phase: Phase::Mix, left: 10 }
+        Guide { random: Random::new(seed), phase: Phase::Mix, left: 10, goal: 0 }
     }
 
-    /// A sequence of that length from the fresh ledger.
-    pub fn sequence(&mut self, length: usize) -> Vec<Step> {
-        let mut ledger = Ledger::fresh();
+    /// A sequence of that length from the fresh ledger at those limits.
+    pub fn sequence(&mut self, limits: Limits, length: usize) -> Vec<Step> {
+        let mut ledger = Ledger::fresh_within(limits);
         let mut steps = Vec::with_capacity(length);
         for _ in 0..length {
             let step = self.next(&ledger);
@@ -83,15 +89,17 @@ impl Guide {
     /// The next step for that ledger.
     pub fn next(&mut self, ledger: &Ledger) -> Step {
         if self.left == 0 {
-            let phases = [Phase::Fill, Phase::Hold, Phase::Empty, Phase::Mix];
-            self.phase = self.random.pick(&phases);
-            self.left = 20 + self.random.below(120);
+            self.turn(ledger);
         }
         self.left -= 1;
+        let filling = self.phase == Phase::Fill && ledger.objects.len() < self.goal;
+        if filling && self.random.below(8) != 0 {
+            return self.acceptable(filler(ledger), ledger);
+        }
         match self.random.below(20) {
             0 => {
                 let time = self.time(ledger);
-                step_at(&mut self.random, time)
+                step_at(&mut self.random, time, ledger.limits.names)
             }
             1..=6 => {
                 let row = 2 + self.random.below(u64::from(LAST_CODE) - 1) as u8;
@@ -104,16 +112,42 @@ impl Guide {
         }
     }
 
+    /// Begins another phase.
+    fn turn(&mut self, ledger: &Ledger) {
+        let random = &mut self.random;
+        let phases =
+            [Phase::Fill, Phase::Fill, Phase::Hold, Phase::Empty, Phase::Sweep, Phase::Mix];
+        self.phase = random.pick(&phases);
+        // Once 2^64-1 is collected nothing can be put.
+        if self.phase == Phase::Fill && ledger.highest_collected == u64::MAX {
+            self.phase = Phase::Mix;
+        }
+        self.left = 20 + random.index(100);
+        match self.phase {
+            Phase::Fill => {
+                let places = ledger.limits.places;
+                // Often all places, else any number of them.
+                self.goal = if random.once_in(2) { places } else { random.index(places + 1) };
+                // Some of the puts on the way are refused or are other steps.
+                self.left += self.goal.saturating_sub(ledger.objects.len()) * 5 / 4;
+            }
+            // A few steps make all dead.
+            Phase::Sweep => self.left = 20,
+            _ => {}
+        }
+    }
+
     fn sort(&mut self, ledger: &Ledger) -> Sort {
         use Sort::*;
         let current = ledger.current().0;
         let held = ledger.holds.values().any(|hold| hold.manifest == current);
         let usual: &[Sort] = match self.phase {
-            Phase::Fill => &[Put, Put, Put, Put, Put, Put, Put, Commit, Compact, Look],
+            Phase::Fill => &[Put, Put, Put, Put, Commit, Compact, List, Look],
             // A second hold on one manifest would leave fewer than nine.
             Phase::Hold if held => &[Fence, Commit, Commit, Compact, Put, List],
             Phase::Hold => &[Hold, Hold, Hold, Hold, Fence, Commit, Renew, Put],
             Phase::Empty => &[Fence, Release, Collect, Collect, Commit, List],
+            Phase::Sweep => &[sweeper(ledger)],
             Phase::Mix => &ALL,
         };
         self.random.pick(usual)
@@ -145,7 +179,7 @@ impl Guide {
         let expiry = expiry(random, time);
         let hold = live_hold(random, ledger, time);
         let kind = match sort {
-            Sort::Fence => Kind::Fence { role: role(random), slot },
+            Sort::Fence => Kind::Fence { role: fenced(random, ledger), slot },
             Sort::Put => put(random, ledger),
             Sort::Commit => Kind::Commit { epoch: writer, slot },
             Sort::Compact => {
@@ -159,7 +193,10 @@ impl Guide {
             Sort::Look => look(random, ledger, hold),
             Sort::Collect => Kind::Collect,
         };
-        let emptied = self.phase == Phase::Empty && random.once_in(2);
+        let emptied = match self.phase {
+            Phase::Empty => random.once_in(2),
+            phase => phase == Phase::Sweep,
+        };
         let list = match sort {
             Sort::Commit if !emptied => stored_list(random, ledger),
             _ => Vec::new(),
@@ -188,7 +225,7 @@ impl Guide {
         let mut step = self.acceptable(sort, ledger);
         let random = &mut self.random;
         match row {
-            2 => break_value(random, &mut step),
+            2 => break_value(random, &mut step, ledger),
             3 => step.time = ledger.clock.saturating_sub(1 + random.below(3)),
             4 | 5 => change_epoch(random, row, &mut step.kind, ledger),
             6 | 7 => change_slot(random, row, &mut step.kind, ledger),
@@ -220,19 +257,62 @@ fn highest(ledger: &Ledger) -> u64 {
 /// A number that may be put, above all that are stored or, as when parallel
 /// writers land out of order, only above those that were collected.
 fn new_number(random: &mut Random, ledger: &Ledger) -> u64 {
-    let gap = match random.below(2000) {
+    let below = random.pick(&[highest(ledger), ledger.highest_collected]);
+    // Once 2^64-1 is collected nothing can be put, so it is rare.
+    let gap = match random.below(8000) {
         0 => u64::MAX,
-        1..=20 => random.below(1 << 40),
+        1..=80 if below < 1 << 63 => random.below(1 << 40),
         _ => 1 + random.below(3),
     };
-    let below = random.pick(&[highest(ledger), ledger.highest_collected]);
     let first = below.saturating_add(gap.max(1));
     (first..=u64::MAX).find(|number| !ledger.objects.contains_key(number)).unwrap_or(first)
 }
 
+/// What fills the store: puts, once a role has an epoch.
+fn filler(ledger: &Ledger) -> Sort {
+    match ledger.current().0 {
+        0 => Sort::Fence,
+        _ => Sort::Put,
+    }
+}
+
+/// What makes all objects dead, and then collects them.
+fn sweeper(ledger: &Ledger) -> Sort {
+    let pending = ledger.objects.values().any(|object| pending(ledger, object));
+    if !ledger.holds.is_empty() {
+        Sort::Release
+    } else if !ledger.current().1.list.is_empty() {
+        Sort::Commit
+    } else if pending {
+        Sort::Fence
+    } else {
+        Sort::Collect
+    }
+}
+
+fn pending(ledger: &Ledger, object: &Object) -> bool {
+    object.epoch == ledger.epoch(object.role) && !object.named
+}
+
+/// Mostly a role that has pending objects, so that they become dead.
+fn fenced(random: &mut Random, ledger: &Ledger) -> Role {
+    let of_pending = ledger.objects.values().find(|object| pending(ledger, object));
+    match of_pending {
+        Some(object) if random.once_in(2) => object.role,
+        _ => role(random),
+    }
+}
+
+/// A role that has an epoch, if one has.
+fn with_epoch(random: &mut Random, ledger: &Ledger) -> Role {
+    let roles = [Role::Writer, Role::Compactor];
+    let with: Vec<Role> = roles.into_iter().filter(|role| ledger.epoch(*role) > 0).collect();
+    random.pick(if with.is_empty() { &roles } else { &with })
+}
+
 /// A new number, most often of the role's current epoch.
 fn put(random: &mut Random, ledger: &Ledger) -> Kind {
-    let role = role(random);
+    let role = with_epoch(random, ledger);
     let current = ledger.epoch(role).max(1);
     let epoch = match random.below(4) {
         0 => 1 + random.below(current),
@@ -243,17 +323,29 @@ fn put(random: &mut Random, ledger: &Ledger) -> Kind {
     Kind::Put { role, epoch, object, currency }
 }
 
-/// At most sixteen of the stored objects, most often a few.
+/// As many of the stored objects as a manifest may name, a few, or any number
+/// between.
 fn stored_list(random: &mut Random, ledger: &Ledger) -> Vec<u64> {
-    let mut stored: Vec<u64> = ledger.objects.keys().copied().collect();
-    let wanted = match random.below(3) {
-        0 => NAMES,
+    let names = ledger.limits.names;
+    let wanted = match random.below(4) {
+        0 => names,
+        1 => random.index(names + 1),
         _ => random.index(6),
     };
-    while stored.len() > wanted {
-        let place = random.index(stored.len());
-        stored.remove(place);
+    some_stored(random, ledger, wanted)
+}
+
+/// So many of the stored objects, or all.
+pub fn some_stored(random: &mut Random, ledger: &Ledger, wanted: usize) -> Vec<u64> {
+    let mut stored: Vec<u64> = ledger.objects.keys().copied().collect();
+    let wanted = wanted.min(stored.len());
+    // The chosen ones are moved to the front.
+    for place in 0..wanted {
+        let other = place + random.index(stored.len() - place);
+        stored.swap(place, other);
     }
+    stored.truncate(wanted);
+    stored.sort();
     stored
 }
 

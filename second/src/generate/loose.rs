@@ -3,8 +3,9 @@
 //! "When a step is turned away" and "Records and names".
 
 use crate::generate::{number, with_length};
+use crate::limits::{NAMES, PLACES};
 use crate::random::Random;
-use crate::records::{NAMES, PLACES};
+use crate::records::field;
 
 /// The outer tag of each kind and the tags of its fields.
 const STEPS: [(u8, &[u8]); 10] = [
@@ -38,6 +39,14 @@ pub fn verdict(random: &mut Random) -> Vec<u8> {
     let (tag, fields) = random.pick(&VERDICTS);
     let longest = random.pick(&[NAMES, PLACES]);
     record(random, tag, fields, longest)
+}
+
+/// A COMMIT of these values, whether a reader takes its list or not.
+pub fn commit(time: u64, epoch: u64, slot: u64, list: &[u64]) -> Vec<u8> {
+    let numbers = [(0x01, time), (0x03, epoch), (0x04, slot)];
+    let numbers = numbers.map(|(tag, value)| field(tag, &value.to_be_bytes()));
+    let names: Vec<u8> = list.iter().flat_map(|name| name.to_be_bytes()).collect();
+    field(0x12, &[numbers.concat(), field(0x07, &names)].concat())
 }
 
 /// At times a field is missing, stands twice, or stands in another place.

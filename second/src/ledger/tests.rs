@@ -2,7 +2,9 @@
 
 use super::*;
 use crate::depot;
+use crate::limits::{LONGEST_VERDICT, NAMES, PLACES, WORD, WORDS};
 use crate::raw::{from_raw, raw, RawManifest};
+use crate::records::write_verdict;
 
 const W: Role = Role::Writer;
 const C: Role = Role::Compactor;
@@ -127,26 +129,107 @@ fn epochs_and_slots() {
     assert_eq!(ledger.at(0, list(0)), listed(5, &[8]));
 }
 
-#[test]
-fn a_put_takes_the_lowest_free_place() {
+/// As `started`, with objects 1 to the most, each at the place before its
+/// number.
+fn full() -> Ledger {
     let mut ledger = started();
-    for object in 1..=64 {
+    for object in 1..=PLACES as u64 {
+        assert_eq!(ledger.objects.len() as u64, object - 1);
         assert_eq!(ledger.at(10, put(W, 1, object, 1)), DONE);
         assert_eq!(ledger.objects[&object].place as u64, object - 1);
     }
-    assert_eq!(ledger.at(10, put(W, 1, 65, 1)), refused(11));
-    assert_eq!(ledger.at(10, put(W, 1, 64, 1)), refused(9));
-    assert_eq!(ledger.at(10, put(W, 2, 65, 1)), refused(4));
+    ledger
+}
+
+/// Names the objects and no longer names them, so that they are dead, and
+/// collects them.
+fn remove(ledger: &mut Ledger, objects: &[u64]) {
+    let slot = ledger.current().0 + 1;
+    assert_eq!(ledger.commit(10, 1, slot, objects), DONE);
+    assert_eq!(ledger.commit(10, 1, slot + 1, &[]), DONE);
+    assert_eq!(ledger.at(10, Kind::Collect), collected(objects));
+}
+
+#[test]
+fn as_many_objects_as_places_are_stored_and_no_more() {
+    let mut ledger = full();
+    let next = PLACES as u64 + 1;
+    assert_eq!((ledger.objects.len(), next), (256, 257));
+    assert_eq!(ledger.at(10, put(W, 1, next, 1)), refused(11));
+    remove(&mut ledger, &[200]);
+    assert_eq!(ledger.objects.len(), PLACES - 1);
+    assert_eq!(ledger.at(10, put(C, 1, next, 1)), DONE);
+    assert_eq!(ledger.at(10, put(C, 1, next + 1, 1)), refused(11));
+    // The longest collection, once the one of the compactor is dead too.
+    assert_eq!(ledger.at(10, fence(W, 5)), Verdict::Epoch(2));
+    assert_eq!(ledger.at(10, fence(C, 6)), Verdict::Epoch(2));
+    let all: Vec<u64> = (1..=next).filter(|object| *object != 200).collect();
+    let verdict = ledger.at(10, Kind::Collect);
+    assert_eq!(verdict, collected(&all));
+    assert_eq!(write_verdict(&verdict).unwrap().len(), LONGEST_VERDICT);
+    assert!(ledger.objects.is_empty());
+}
+
+#[test]
+fn the_lowest_free_place_is_counted_across_the_words() {
+    let mut ledger = full();
+    for object in [71, 201, 4] {
+        remove(&mut ledger, &[object]);
+    }
+    for (object, place) in [(301, 3), (302, 70), (303, 200)] {
+        assert_eq!(ledger.at(10, put(W, 1, object, 1)), DONE);
+        assert_eq!(ledger.objects[&object].place, place);
+    }
+    assert_eq!(ledger.at(10, put(W, 1, 304, 1)), refused(11));
+}
+
+#[test]
+fn the_first_and_the_last_place_of_each_word_are_used_again() {
+    let mut ledger = full();
+    let ends = |word: usize| [word * WORD, word * WORD + WORD - 1];
+    let places: Vec<usize> = (0..WORDS).flat_map(ends).collect();
+    let objects: Vec<u64> = places.iter().map(|place| *place as u64 + 1).collect();
+    assert_eq!(objects, [1, 64, 65, 128, 129, 192, 193, 256]);
+    remove(&mut ledger, &objects);
+    for (place, object) in places.into_iter().zip(300..) {
+        assert_eq!(ledger.at(10, put(W, 1, object, 1)), DONE);
+        assert_eq!(ledger.objects[&object].place, place);
+    }
+    assert_eq!(ledger.at(10, put(W, 1, 400, 1)), refused(11));
+}
+
+#[test]
+fn a_manifest_lists_as_many_names_as_it_may_and_no_more() {
+    let mut ledger = full();
+    let names: Vec<u64> = (1..=NAMES as u64).map(|name| 2 * name).collect();
+    let more = [&names[..], &[255]].concat();
+    assert_eq!((names.len(), more.len()), (64, 65));
+    assert_eq!(ledger.commit(10, 1, 3, &more), refused(2));
+    assert_eq!(ledger.commit(10, 1, 3, &names), DONE);
+    assert_eq!(ledger.at(10, list(0)), listed(3, &names));
+    // All are of one currency, so one stays.
+    assert_eq!(ledger.at(10, compact(1, 4, 7)), DONE);
+    assert_eq!(ledger.at(10, list(0)), listed(4, &[7]));
+    assert_eq!(ledger.at(10, Kind::Collect), collected(&names));
+}
+
+#[test]
+fn a_put_takes_the_lowest_free_place() {
+    let mut ledger = full();
+    let last = PLACES as u64;
+    assert_eq!(ledger.at(10, put(W, 1, last + 1, 1)), refused(11));
+    assert_eq!(ledger.at(10, put(W, 1, last, 1)), refused(9));
+    assert_eq!(ledger.at(10, put(W, 2, last + 1, 1)), refused(4));
     ledger.commit(10, 1, 3, &[1, 5, 9]);
     ledger.commit(10, 1, 4, &[1]);
     // Only 5 and 9 were named and are no longer: places 4 and 8 are free.
     assert_eq!(ledger.at(10, Kind::Collect), collected(&[5, 9]));
     assert_eq!(ledger.at(10, put(W, 1, 9, 1)), refused(10));
-    for (object, place) in [(70, 4), (71, 8)] {
+    for (object, place) in [(last + 6, 4), (last + 7, 8)] {
         assert_eq!(ledger.at(10, put(W, 1, object, 1)), DONE);
         assert_eq!(ledger.objects[&object].place, place);
     }
-    assert_eq!(ledger.at(10, put(W, 1, 72, 1)), refused(11));
+    assert_eq!(ledger.at(10, put(W, 1, last + 8, 1)), refused(11));
     assert_eq!(ledger.at(10, put(W, 1, 9, 1)), refused(10));
 }
 
@@ -166,19 +249,20 @@ fn a_collected_number_is_spent_and_so_are_those_below() {
 #[test]
 fn once_the_largest_number_is_collected_every_put_past_9_gives_10() {
     let mut ledger = started();
-    for object in [1, 5, u64::MAX - 1].into_iter().chain(100..161) {
+    let next = 100 + PLACES as u64 - 3;
+    for object in [1, 5, u64::MAX - 1].into_iter().chain(100..next) {
         assert_eq!(ledger.at(10, put(W, 1, object, 0)), DONE);
     }
     assert_eq!(ledger.at(10, put(W, 1, 2, 0)), refused(11));
     let mut last = raw(&ledger);
     last.highest_collected = u64::MAX;
     let mut ledger = from_raw(&last).expect("stored numbers are not bounded by it");
-    for object in [2, 4, 6, 161, u64::MAX - 2, u64::MAX] {
+    for object in [2, 4, 6, next, u64::MAX - 2, u64::MAX] {
         assert_eq!(ledger.at(10, put(W, 1, object, 0)), refused(10));
         assert_eq!(ledger.at(10, put(W, 2, object, 0)), refused(4));
         assert_eq!(ledger.at(9, put(W, 1, object, 0)), refused(3));
     }
-    for object in [1, 5, 160, u64::MAX - 1] {
+    for object in [1, 5, next - 1, u64::MAX - 1] {
         assert_eq!(ledger.at(10, put(W, 1, object, 0)), refused(9));
     }
     assert_eq!(ledger.at(10, put(W, 1, 0, 0)), refused(2));

@@ -1,6 +1,8 @@
 //! Records of each kind, both ways, and each malformed shape.
 
 use super::*;
+use crate::generate::loose;
+use crate::limits::{LONGEST_STEP, LONGEST_VERDICT};
 
 fn hex(text: &str) -> Vec<u8> {
     let digits: Vec<u8> = text.bytes().filter(|byte| *byte != b' ').collect();
@@ -13,6 +15,11 @@ fn hex(text: &str) -> Vec<u8> {
 fn step(time: u64, kind: Kind) -> Step {
     let list = Vec::new();
     Step { time, kind, list }
+}
+
+/// The first numbers from 1.
+fn first(length: usize) -> Vec<u64> {
+    (1..=length as u64).collect()
 }
 
 fn commit(list: &[u64]) -> Step {
@@ -124,13 +131,36 @@ fn each_verdict_is_read_and_written() {
 #[test]
 fn the_lengths_are_those_of_the_document() {
     let length = |verdict: Verdict| write_verdict(&verdict).map(|bytes| bytes.len());
-    let list: Vec<u64> = (1..=64).collect();
     assert_eq!(length(Verdict::Refused(2)), Some(7));
-    assert_eq!(length(Verdict::Collected(list)), Some(522));
-    let list = (1..=16).collect();
-    assert_eq!(length(Verdict::Listed { manifest: 0, list }), Some(149));
-    let list: Vec<u64> = (1..=16).collect();
-    assert_eq!(write_step(&commit(&list)).unwrap().len(), 167);
+    assert_eq!(length(Verdict::Collected(first(PLACES))), Some(LONGEST_VERDICT));
+    let list = first(NAMES);
+    assert_eq!(length(Verdict::Listed { manifest: 0, list }), Some(533));
+    assert_eq!(write_step(&commit(&first(NAMES))).unwrap().len(), LONGEST_STEP);
+    assert_eq!((LONGEST_VERDICT, LONGEST_STEP), (2058, 551));
+}
+
+/// Written by the fields, whether a writer takes the list or not.
+#[test]
+fn lists_of_every_length_around_the_limits_are_read_and_written() {
+    let code = field(CODE, &[0]);
+    let (names, places) = (64, 256);
+    for length in (0..NAMES + 3).chain(PLACES - 3..PLACES + 3) {
+        let (list, written) = (first(length), list_field(&first(length)));
+        let (step, bytes) = (commit(&list), loose::commit(1, 3, 4, &list));
+        assert_eq!(read_step(&bytes), (length <= names).then_some(step.clone()), "{length}");
+        assert_eq!(write_step(&step), (length <= names).then_some(bytes), "{length}");
+
+        let bytes = field(VERDICT, &[&code[..], &written].concat());
+        let verdict = Verdict::Collected(list.clone());
+        assert_eq!(read_verdict(&bytes), (length <= places).then_some(verdict.clone()), "{length}");
+        assert_eq!(write_verdict(&verdict), (length <= places).then_some(bytes), "{length}");
+
+        let manifest = field(MANIFEST, &6_u64.to_be_bytes());
+        let bytes = field(VERDICT, &[&code[..], &written, &manifest].concat());
+        let verdict = Verdict::Listed { manifest: 6, list };
+        assert_eq!(read_verdict(&bytes), (length <= names).then_some(verdict.clone()), "{length}");
+        assert_eq!(write_verdict(&verdict), (length <= names).then_some(bytes), "{length}");
+    }
 }
 
 #[test]
@@ -255,14 +285,12 @@ fn malformed_values_are_refused_both_ways() {
 }
 
 #[test]
-fn lists_rise_without_zero_up_to_sixteen() {
-    let sixteen: Vec<u64> = (1..=16).collect();
-    let seventeen: Vec<u64> = (1..=17).collect();
+fn lists_rise_without_zero_up_to_the_longest() {
     for (list, good) in [
         (&[][..], true),
         (&[u64::MAX], true),
-        (&sixteen, true),
-        (&seventeen, false),
+        (&first(NAMES), true),
+        (&first(NAMES + 1), false),
         (&[0], false),
         (&[0, 1], false),
         (&[1, 1], false),
@@ -291,8 +319,8 @@ fn malformed_verdicts_are_refused_both_ways() {
         Verdict::Found(0),
         Verdict::Collected(vec![0]),
         Verdict::Collected(vec![2, 2]),
-        Verdict::Collected((1..=65).collect()),
-        listed((1..=17).collect()),
+        Verdict::Collected(first(PLACES + 1)),
+        listed(first(NAMES + 1)),
         listed(vec![2, 1]),
     ] {
         assert_eq!(write_verdict(&verdict), None, "{verdict:?}");

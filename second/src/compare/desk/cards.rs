@@ -158,8 +158,8 @@ pub fn compare_sequence(
     Ok(counts)
 }
 
-/// Compares two desks on cards of every length up to a few entries and near 64,
-/// with every count around, and on ledgers near the least length; and checks
+/// Compares two desks on cards of every length up to a few entries and near the
+/// most, with every count around, and on ledgers near the least length; and checks
 /// that 3 is the answer exactly where a slice is too short or too long.
 pub fn compare_lent(random: &mut Random, first: Calls, second: Calls) -> Result<Counts, String> {
     let mut counts = Counts::default();

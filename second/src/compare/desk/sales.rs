@@ -209,7 +209,7 @@ pub fn compare_sequence(
         let lent = walk.next(random, guide);
         let asked = Asked::new(random, &walk, &lent.ledger);
         let (mut size, mut room) = (LEDGER, SALE);
-        if random.once_in(40) {
+        if random.once_in(25) {
             (size, room) = (near(random, LEDGER), near(random, SALE));
         }
         let pattern = random.any();

@@ -13,7 +13,7 @@ mod wrong_cards;
 mod wrong_sales;
 mod wrong_sheets;
 
-const COURSES: [Course; 3] = [Course::Fresh, Course::High, Course::Damaged];
+const COURSES: [Course; 4] = [Course::Fresh, Course::Stocked, Course::High, Course::Damaged];
 
 fn sold(course: Course, sequences: usize, first: Calls) -> Result<sales::Counts, String> {
     let (mut random, mut guide) = (Random::new(1), Guide::new(2));
@@ -53,7 +53,7 @@ fn given(answers: &Answers, expected: &[u64], least: usize) {
 #[test]
 fn sales_reach_every_code() {
     let mut all = sales::Counts::default();
-    for (course, sequences) in COURSES.into_iter().zip([110, 50, 60]) {
+    for (course, sequences) in COURSES.into_iter().zip([80, 50, 50, 60]) {
         let counts = sold(course, sequences, SECOND).unwrap();
         println!("{course:?}: {counts:?}");
         given(&counts.answers, &[DONE, SHORT], 50);
@@ -77,7 +77,7 @@ fn sales_reach_every_code() {
 #[test]
 fn cards_reach_every_code() {
     let mut all = cards::Counts::default();
-    for (course, sequences) in COURSES.into_iter().zip([12, 5, 7]) {
+    for (course, sequences) in COURSES.into_iter().zip([8, 4, 5, 7]) {
         let counts = filled(course, sequences, SECOND).unwrap();
         println!("{course:?}: {counts:?}");
         given(&counts.answers, &[DONE, MALFORMED, SHORT], 10);
@@ -87,7 +87,7 @@ fn cards_reach_every_code() {
     assert!(all.cards >= 5_000);
     given(&all.codes, &[0, 1, 2, 3, 15, 16], 100);
     given(&all.holds, &[0, 1, 2, 3], 20);
-    given(&all.entries, &(0..=66).collect::<Vec<_>>(), 1);
+    given(&all.entries, &(0..=ENTRIES as u64 + 2).collect::<Vec<_>>(), 1);
     assert!(all.handed_on > 20 && all.damaged_sound > 100, "{all:?}");
 }
 
@@ -132,7 +132,7 @@ fn the_calls_keep_their_convention() {
     assert_ne!(start, marked);
     let mut numbers = marked.clone();
     assert_eq!(sell(&mut numbers, 22, &[], 978, 0, 0, &mut [0]), SHORT);
-    assert_eq!(fill_card(&mut numbers, 22, 0, 0, &mut [0; 65 * ENTRY]), SHORT);
+    assert_eq!(fill_card(&mut numbers, 22, 0, 0, &mut [0; (ENTRIES + 1) * ENTRY]), SHORT);
     assert_eq!(fill_card(&mut numbers[1..], 22, 0, 0, &mut []), SHORT);
     assert_eq!(numbers, marked);
     let mut sale = [7; SALE + 1];
@@ -147,7 +147,7 @@ fn the_calls_keep_their_convention() {
     assert_eq!(fill_card(&mut numbers, 23, 0, 2, &mut card), DONE);
     assert_eq!(card, [978, 0, 5, 985, 16, 0, 978, 7]);
     assert_eq!((numbers[0], numbers[LEDGER]), (23, 7));
-    let mut longest = [978; 65 * ENTRY - 1];
-    assert_eq!(fill_card(&mut numbers, 23, 0, 64, &mut longest), DONE);
-    assert_eq!(longest[63 * ENTRY..], [978, 0, 5, 978, 978]);
+    let mut longest = [978; (ENTRIES + 1) * ENTRY - 1];
+    assert_eq!(fill_card(&mut numbers, 23, 0, ENTRIES as u64, &mut longest), DONE);
+    assert_eq!(longest[(ENTRIES - 1) * ENTRY..], [978, 0, 5, 978, 978]);
 }

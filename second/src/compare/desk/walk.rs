@@ -2,7 +2,7 @@
 //! currencies that are asked of them.
 
 use super::Left;
-use crate::compare::ledgers::{damage, high, ledger_numbers, raw_of, Course, LEDGER};
+use crate::compare::ledgers::{damage, ledger_numbers, raw_of, Course, LEDGER};
 use crate::compare::{count, Answers, MARGIN};
 use crate::generate::guided::Guide;
 use crate::generate::number;
@@ -39,11 +39,7 @@ impl Lent {
 
 impl Walk {
     pub fn new(random: &mut Random, course: Course) -> Self {
-        let ledger = match course {
-            Course::High => high(random),
-            Course::Fresh | Course::Damaged => Ledger::fresh(),
-        };
-        Walk { course, ledger }
+        Walk { course, ledger: course.start(random) }
     }
 
     /// A few steps on, at times none, and more where the current list has no

@@ -1,6 +1,7 @@
 //! The comparison finds differences, and the numbers say the ledger.
 
 use super::*;
+use crate::records::Verdict;
 
 fn run(course: Course, first: Calls) -> Result<Counts, String> {
     let (mut random, mut guide) = (Random::new(1), Guide::new(2));
@@ -14,8 +15,9 @@ fn run(course: Course, first: Calls) -> Result<Counts, String> {
 
 #[test]
 fn a_ledger_is_its_numbers() {
-    assert_eq!(LEDGER, 529);
-    for ledger in [Ledger::fresh(), high(&mut Random::new(3))] {
+    assert_eq!(LEDGER, 1924);
+    let mut random = Random::new(3);
+    for ledger in [Ledger::fresh(), high(&mut random), stocked::ledger(&mut random)] {
         let raw = raw::raw(&ledger);
         let numbers = ledger_numbers(&raw);
         assert_eq!(numbers.len(), LEDGER);
@@ -33,11 +35,89 @@ fn a_ledger_is_its_numbers() {
 
 #[test]
 fn one_side_agrees_with_itself() {
-    for course in [Course::Fresh, Course::High, Course::Damaged] {
+    for course in [Course::Fresh, Course::Stocked, Course::High, Course::Damaged] {
         let counts = run(course, SECOND).unwrap();
         assert_eq!(counts.steps, 10_000);
         assert!(counts.answers.len() == 3, "{counts:?}");
     }
+}
+
+/// How many objects the occupancy words tell of.
+fn stored(ledger: &[u64]) -> u32 {
+    ledger[WORDS_AT..OBJECTS_AT].iter().map(|word| word.count_ones()).sum()
+}
+
+/// The error of a wrong step, from the fresh ledger and from stocked ones.
+#[track_caller]
+fn wrong_step(step: StepCall, told: &str) {
+    for course in [Course::Fresh, Course::Stocked] {
+        let error = run(course, Calls { fresh, step }).expect_err("the step is wrong");
+        assert!(error.contains(told), "{error}");
+    }
+}
+
+#[test]
+fn wrong_limits_are_found() {
+    const PUT: u64 = 1;
+    const COMMIT: u64 = 2;
+    // One object fewer is stored than may be.
+    wrong_step(
+        |ledger, numbers, list, verdict, objects| {
+            let before = ledger.to_vec();
+            let answer = step(ledger, numbers, list, verdict, objects);
+            if answer == 0 && numbers[0] == PUT && stored(ledger) as usize == PLACES {
+                if stored(&before) as usize == PLACES {
+                    return answer;
+                }
+                ledger.copy_from_slice(&before);
+                put_verdict(Verdict::Refused(11), verdict, objects);
+            }
+            answer
+        },
+        "verdict[0] first 0, second 1; verdict[1] first 11, second 0",
+    );
+    // A list of one name fewer is the longest.
+    wrong_step(
+        |ledger, numbers, list, verdict, objects| {
+            let longest = numbers.get(STEP - 1) == Some(&(NAMES as u64));
+            let mut shorter = numbers.to_vec();
+            if longest && numbers[0] == COMMIT {
+                shorter[STEP - 1] = NAMES as u64 + 1;
+            }
+            step(ledger, &shorter, list, verdict, objects)
+        },
+        "verdict[1] first 2, second ",
+    );
+}
+
+/// A put takes the lowest free place of the last word that has one.
+#[test]
+fn a_place_in_another_word_is_found() {
+    wrong_step(
+        |ledger, numbers, list, verdict, objects| {
+            let before = ledger.to_vec();
+            let answer = step(ledger, numbers, list, verdict, objects);
+            let put = answer == 0 && stored(ledger) > stored(&before);
+            let taken = |ledger: &[u64], place: usize| {
+                ledger[WORDS_AT + place / WORD] >> (place % WORD) & 1 == 1
+            };
+            if let (true, Some(last)) = (put, before[WORDS_AT..OBJECTS_AT].last()) {
+                let wanted = PLACES - WORD + (!last).trailing_zeros() as usize;
+                let place = (0..PLACES).find(|place| !taken(&before, *place)).unwrap_or(0);
+                if wanted < PLACES && place < wanted {
+                    for entry in 0..OBJECT {
+                        let at = |place: usize| OBJECTS_AT + place * OBJECT + entry;
+                        ledger.swap(at(place), at(wanted));
+                    }
+                    for place in [place, wanted] {
+                        ledger[WORDS_AT + place / WORD] ^= 1 << (place % WORD);
+                    }
+                }
+            }
+            answer
+        },
+        &format!("ledger[{WORDS_AT}] first "),
+    );
 }
 
 #[test]
@@ -51,7 +131,8 @@ fn differences_are_found() {
         answer
     };
     let error = run(Course::Fresh, Calls { fresh, step: late }).unwrap_err();
-    assert!(error.contains("ledger[528] first 1, second 0"), "{error}");
+    let told = format!("ledger[{}] first 1, second 0", LEDGER - 1);
+    assert!(error.contains(&told), "{error}");
     let unjudged: StepCall = |ledger, numbers, list, verdict, objects| {
         let before = ledger.to_vec();
         let answer = step(ledger, numbers, list, verdict, objects);

@@ -1,6 +1,7 @@
 //! Each wrong codec differs from the right one in one respect only.
 
 use super::*;
+use crate::limits::{LONGEST_STEP, NAME};
 
 fn steps(read: Read, write: Write) -> Result<Counts, String> {
     let wrong = Codec { next: next_record, read, write };
@@ -66,6 +67,45 @@ fn wrong_step_readers_are_reported() {
     }
 }
 
+/// Each takes a list of one number more, or none of the longest.
+#[test]
+fn readers_and_writers_of_other_lists_are_reported() {
+    let wrong: [(Records, Read); 3] = [
+        (STEPS, |record, numbers, list| match record.len() {
+            LONGEST_STEP if numbers.len() >= STEP && list.len() >= NAMES => 2,
+            _ => read_step(record, numbers, list),
+        }),
+        (STEPS, |record, numbers, list| match record.len() {
+            length if length == LONGEST_STEP + NAME && numbers.len() >= STEP => 0,
+            _ => read_step(record, numbers, list),
+        }),
+        (VERDICTS, |record, numbers, list| match record.len() {
+            LONGEST_VERDICT if numbers.len() >= VERDICT && list.len() >= PLACES => 2,
+            _ => read_verdict(record, numbers, list),
+        }),
+    ];
+    for (index, (records, read)) in wrong.into_iter().enumerate() {
+        let side = Codec { read, ..records.codec };
+        let result = compare_reads(&mut Random::new(9), &records, 30_000, side, records.codec);
+        result.expect_err(&format!("reader {index} is wrong"));
+    }
+    let wrong: [(Records, Write); 2] = [
+        (STEPS, |numbers, list, out| match write_step(numbers, list, out) {
+            answer if answer == LONGEST_STEP as u64 => 2,
+            answer => answer,
+        }),
+        (VERDICTS, |numbers, list, out| match write_verdict(numbers, list, out) {
+            answer if answer == LONGEST_VERDICT as u64 => 2,
+            answer => answer,
+        }),
+    ];
+    for (index, (records, write)) in wrong.into_iter().enumerate() {
+        let side = Codec { write, ..records.codec };
+        let result = compare_writes(&mut Random::new(8), &records, 30_000, side, records.codec);
+        result.expect_err(&format!("writer {index} is wrong"));
+    }
+}
+
 #[test]
 fn wrong_step_writers_are_reported() {
     let wrong: [Write; 4] = [
@@ -114,7 +154,7 @@ fn writers_of_what_no_reader_takes_are_reported() {
         // What stands beyond the list plays no part.
         |numbers, list, out| {
             let mut places = list.to_vec();
-            if let [_, _, length @ 0..=64] = numbers {
+            if let [_, _, length] = numbers {
                 places.iter_mut().skip(*length as usize).for_each(|place| *place = 0);
             }
             write_verdict(numbers, &places, out)

@@ -2,6 +2,7 @@
 //! one in one respect only.
 
 use super::*;
+use crate::limits::WORDS;
 use crate::records::{read_verdict, Verdict};
 
 fn sequences(course: Course, first: Calls) -> Result<Counts, String> {
@@ -55,15 +56,14 @@ fn one_side_agrees_with_itself() {
 #[test]
 fn every_room_is_tried() {
     let counts = rooms(SECOND).unwrap();
-    let traces = fixed().len() + 3;
-    assert_eq!(counts.runs, traces * (LONGEST_ROOM + 1));
+    assert_eq!(counts.runs, fixed().len() * (LONGEST_ROOM + 1) + 3 * (SHORT_ROOM + 1));
     assert!(counts.exact >= fixed().len() && counts.one_less > 5, "{counts:?}");
     assert_eq!(counts.answers.keys().copied().collect::<Vec<_>>(), [0, 1, 2]);
 }
 
 #[test]
 fn the_longest_verdict_is_among_the_fixed_traces() {
-    let longest = Verdict::Collected((1..=64).collect());
+    let longest = Verdict::Collected((1..=PLACES as u64).collect());
     let first = |(ledger, trace): Short| {
         let (mut out, mut counts) = (vec![0; LONGEST_ROOM], [0; COUNTS]);
         run_on(&mut ledger?, &trace, &mut out, &mut counts);
@@ -198,7 +198,7 @@ fn wrong_ledgers_are_found() {
             let mut taken = ledger.to_vec();
             let answer = run_on(ledger, trace, out, counts);
             if answer == 2 {
-                let mut room = vec![0; counts[1] as usize + 522];
+                let mut room = vec![0; counts[1] as usize + LONGEST_VERDICT];
                 run_on(&mut taken, &trace[..next_end(trace, counts[0])], &mut room, &mut [0; 2]);
                 ledger.copy_from_slice(&taken);
             }
@@ -233,7 +233,10 @@ fn wrong_ledgers_are_found() {
         _ => run_on(ledger, trace, out, counts),
     };
     let error = rooms(Calls { run_on: uncut, ..SECOND }).unwrap_err();
-    assert!(error.contains("ledger[7] first 7, second 1"), "{error}");
+    // The mark of the object at place 0, behind the clock, the highest number
+    // collected and the words.
+    let told = format!("ledger[{}] first 7, second 1", 2 + WORDS + 4);
+    assert!(error.contains(&told), "{error}");
     // The first record on a ledger that is not sound is answered 3.
     wrong_run_on(
         Course::DamagedLedgers,
@@ -291,7 +294,7 @@ fn writes_outside_what_is_promised_are_found() {
         ledger.iter_mut().skip(LEDGER).for_each(|number| *number = 0);
         answer
     };
-    slices(Calls { run_on: wide, ..SECOND }).expect_err("the 530th number is written");
+    slices(Calls { run_on: wide, ..SECOND }).expect_err("one number more is written");
     let empty: RunCall = |trace, out, counts| match trace {
         // An empty trace goes before 3.
         [] => 0,

@@ -1,13 +1,13 @@
 //! Changes that make a row of the table apply to a step: document 01, "When a
 //! step is turned away".
 
-use super::{highest, CURRENCIES};
+use super::{highest, some_stored, CURRENCIES};
 use crate::ledger::Ledger;
 use crate::random::Random;
 use crate::records::{Kind, Role, Step};
 
 /// Row 2: one value that no record may have.
-pub fn break_value(random: &mut Random, step: &mut Step) {
+pub fn break_value(random: &mut Random, step: &mut Step, ledger: &Ledger) {
     let time = step.time;
     let past = time.saturating_sub(1);
     match &mut step.kind {
@@ -22,14 +22,24 @@ pub fn break_value(random: &mut Random, step: &mut Step) {
         },
         Kind::Release { hold } => *hold = 0,
         Kind::Look { currency, .. } => *currency = random.pick(&[0, 1000, u16::MAX]),
-        Kind::Commit { .. } => match random.below(4) {
+        Kind::Commit { .. } => match random.below(6) {
             0 => step.list.insert(0, 0),
-            1 => step.list = (1..=17).collect(),
-            2 => step.list.extend([7, 7]),
-            _ => step.list.extend([9, 8]),
+            1 => step.list.extend([7, 7]),
+            2 => step.list.extend([9, 8]),
+            _ => step.list = too_long(random, ledger),
         },
         _ => step.list.push(1),
     }
+}
+
+/// One name more than a manifest may have, all of them stored if so many are.
+fn too_long(random: &mut Random, ledger: &Ledger) -> Vec<u64> {
+    let length = ledger.limits.names + 1;
+    let stored = some_stored(random, ledger, length);
+    if stored.len() == length {
+        return stored;
+    }
+    (1..=length as u64).collect()
 }
 
 /// Rows 4 and 5.
@@ -76,10 +86,11 @@ pub fn change_object(random: &mut Random, row: u8, step: &mut Step, ledger: &Led
     };
     match (&mut step.kind, row) {
         (Kind::Commit { .. }, 8) => {
+            // With the absent one the list may not be too long.
+            step.list.truncate(ledger.limits.names - 1);
             step.list.push(absent);
             step.list.sort();
             step.list.dedup();
-            step.list.truncate(16);
         }
         (Kind::Compact { object, .. }, 8) => *object = absent,
         (Kind::Compact { object, .. }, 17) | (Kind::Put { object, .. }, 9) => {

@@ -1,9 +1,9 @@
 //! The guided sequences reach every verdict and every limit often.
 
 use super::*;
-use crate::ledger::{HOLDS, MANIFESTS};
+use crate::limits::{HOLDS, MANIFESTS, NAMES, PLACES, WORD, WORDS};
 use crate::raw::{from_raw, raw};
-use crate::records::{Verdict, PLACES};
+use crate::records::Verdict;
 
 const SEQUENCES: u64 = 200;
 const LENGTH: usize = 1000;
@@ -24,6 +24,11 @@ struct Counts {
     out_of_order: usize,
     below_collected: usize,
     collected: usize,
+    collected_all: usize,
+    longest_list: usize,
+    too_long_list: usize,
+    /// Puts below an object that is stored, by the word of their place.
+    between: [usize; WORDS],
 }
 
 fn count(counts: &mut Counts, before: &Ledger, step: &Step, verdict: &Verdict, after: &Ledger) {
@@ -45,11 +50,19 @@ fn count(counts: &mut Counts, before: &Ledger, step: &Step, verdict: &Verdict, a
     }
     if let (Kind::Put { object, .. }, 0) = (step.kind, verdict.code()) {
         counts.out_of_order += usize::from(before.objects.keys().any(|other| *other > object));
+        let place = after.objects[&object].place;
+        let between = before.objects.values().any(|other| other.place > place);
+        counts.between[place / WORD] += usize::from(between);
+    }
+    if let Kind::Commit { .. } = step.kind {
+        counts.longest_list += usize::from(verdict.code() == 0 && step.list.len() == NAMES);
+        counts.too_long_list += usize::from(verdict.code() == 2 && step.list.len() == NAMES + 1);
     }
     counts.below_collected +=
         usize::from(after.objects.keys().any(|number| *number < after.highest_collected));
     if let Verdict::Collected(list) = verdict {
         counts.collected += list.len();
+        counts.collected_all += usize::from(list.len() == PLACES);
     }
 }
 
@@ -89,13 +102,18 @@ fn every_verdict_and_limit_is_reached() {
         counts.out_of_order,
         counts.below_collected,
         counts.collected,
+        counts.longest_list,
+        counts.too_long_list,
     ] {
         assert!(times >= OFTEN, "{counts:?}");
     }
+    assert!(counts.between.iter().all(|times| *times >= OFTEN), "{counts:?}");
+    assert!(counts.collected_all >= 20, "{counts:?}");
 }
 
 #[test]
 fn the_seed_decides_the_sequence() {
-    assert_eq!(Guide::new(9).sequence(300), Guide::new(9).sequence(300));
-    assert_ne!(Guide::new(9).sequence(300), Guide::new(10).sequence(300));
+    let sequence = |seed: u64| Guide::new(seed).sequence(Limits::NOW, 300);
+    assert_eq!(sequence(9), sequence(9));
+    assert_ne!(sequence(9), sequence(10));
 }

@@ -220,15 +220,15 @@ fn wrong_entries_are_found() {
 
 #[test]
 fn wrong_longest_cards_are_found() {
-    // 65 entries are filled, or their count is judged.
+    // One entry more than the most is filled, or their count is judged.
     let long: FillCall = |ledger, time, hold, count, card| {
         let most = card.len().min(ENTRIES * ENTRY);
         fill_card(ledger, time, hold, count, &mut card[..most])
     };
     found(Course::Fresh, long, " and 3");
-    // 64 entries and a piece of one more are refused.
+    // As many entries as there may be and a piece of one more are refused.
     let short: FillCall = |ledger, time, hold, count, card| match card.len() {
-        193.. => SHORT,
+        length if length > ENTRIES * ENTRY => SHORT,
         _ => fill_card(ledger, time, hold, count, card),
     };
     found(Course::Fresh, short, "answers 3 and ");
