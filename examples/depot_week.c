@@ -9,9 +9,6 @@
 
 #include "cuudhaqil.h"
 
-/* No list is longer, and no verdict record. */
-enum { PLACES = 256, LONGEST_VERDICT = 10 + 8 * PLACES };
-
 /* The table of refusals, from row 1. */
 static const char *const rows[] = {
     "ledger not sound",
@@ -119,7 +116,7 @@ int main(int argc, char **argv) {
         fprintf(stderr, "cannot read %s\n", argv[1]);
         return 1;
     }
-    size_t room = count_records(trace, length) * LONGEST_VERDICT;
+    size_t room = count_records(trace, length) * CUUDHAQIL_LONGEST_VERDICT;
     uint8_t *out = malloc(room + 1);
     if (out == NULL) {
         fprintf(stderr, "no memory for the verdicts\n");
@@ -129,8 +126,8 @@ int main(int argc, char **argv) {
     uint64_t end = cuudhaqil_run(trace, length, out, room, counts, 2);
     for (uint64_t at = 0; at < counts[1];) {
         uint64_t next = cuudhaqil_next_record(out + at, counts[1] - at);
-        uint64_t numbers[3], list[PLACES];
-        cuudhaqil_read_verdict(out + at, next, numbers, 3, list, PLACES);
+        uint64_t numbers[3], list[CUUDHAQIL_PLACES];
+        cuudhaqil_read_verdict(out + at, next, numbers, 3, list, CUUDHAQIL_PLACES);
         print_verdict(numbers, list);
         at += next;
     }

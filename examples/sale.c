@@ -10,7 +10,7 @@
 #include "cuudhaqil.h"
 #include "cuudhaqil_desk.h"
 
-enum { LEDGER = 1924, SHEET = 4, SHEET_BYTES = 41, SALE = 2, ENTRY = 3 };
+enum { SHEET = 4, SHEET_BYTES = 41, SALE = 2, ENTRY = 3 };
 
 /* At time 0 the writer fences, at 10 it puts object 1 as a sheet of currency 978, at 11 it commits the list of it. */
 static const uint8_t trace[] = {
@@ -49,7 +49,7 @@ static void print_records(const char *what, const uint8_t *bytes, size_t length)
 
 static void sell(uint64_t *ledger, uint64_t time, const uint8_t *sheet, uint64_t currency, uint64_t fare) {
     uint64_t sale[SALE];
-    expect(cuudhaqil_sell(ledger, LEDGER, time, sheet, SHEET_BYTES, currency, 0, fare, sale, SALE), 0);
+    expect(cuudhaqil_sell(ledger, CUUDHAQIL_LEDGER, time, sheet, SHEET_BYTES, currency, 0, fare, sale, SALE), 0);
     printf("sale at %" PRIu64 ", currency %" PRIu64 ", fare %" PRIu64 ": ", time, currency, fare);
     if (sale[0] == 0)
         printf("charged %" PRIu64, sale[1]);
@@ -59,11 +59,11 @@ static void sell(uint64_t *ledger, uint64_t time, const uint8_t *sheet, uint64_t
 }
 
 int main(void) {
-    uint64_t ledger[LEDGER];
+    uint64_t ledger[CUUDHAQIL_LEDGER];
     uint8_t verdicts[64];
     uint64_t counts[2];
-    expect(cuudhaqil_fresh(ledger, LEDGER), 0);
-    expect(cuudhaqil_run_on(ledger, LEDGER, trace, sizeof trace, verdicts, sizeof verdicts, counts, 2), 0);
+    expect(cuudhaqil_fresh(ledger, CUUDHAQIL_LEDGER), 0);
+    expect(cuudhaqil_run_on(ledger, CUUDHAQIL_LEDGER, trace, sizeof trace, verdicts, sizeof verdicts, counts, 2), 0);
     print_records("step", trace, sizeof trace);
     print_records("verdict", verdicts, counts[1]);
 
@@ -77,7 +77,7 @@ int main(void) {
     sell(ledger, 11, sheet, 978, 250); /* the clock is at 12 */
 
     uint64_t card[] = {978, 99, 99, 840, 99, 99, 756, 99, 99}; /* the third entry is beyond the count */
-    expect(cuudhaqil_fill_card(ledger, LEDGER, 14, 0, 2, card, sizeof card / sizeof card[0]), 0);
+    expect(cuudhaqil_fill_card(ledger, CUUDHAQIL_LEDGER, 14, 0, 2, card, sizeof card / sizeof card[0]), 0);
     for (size_t i = 0; i < sizeof card / sizeof card[0]; i += ENTRY)
         printf("card: currency %" PRIu64 ", code %" PRIu64 ", object %" PRIu64 "\n", card[i], card[i + 1], card[i + 2]);
     printf("clock %" PRIu64 "\n", ledger[0]);

@@ -11,6 +11,16 @@
 extern "C" {
 #endif
 
+/* What a caller lends, in elements: places for a step's list and for a verdict's, a ledger; and in bytes what holds any
+ * step's and any verdict's record. */
+enum {
+    CUUDHAQIL_NAMES = 64,
+    CUUDHAQIL_PLACES = 256,
+    CUUDHAQIL_LEDGER = 1924,
+    CUUDHAQIL_LONGEST_STEP = 551,
+    CUUDHAQIL_LONGEST_VERDICT = 2058
+};
+
 /* Store names: 20 decimal digits and ".manifest" or ".sst". */
 
 /* Reads all the bytes as one name.

@@ -5,6 +5,9 @@ use std::fs;
 use std::path::{Path, PathBuf};
 use std::process::Command;
 
+use second::compare::ledgers::LEDGER;
+use second::limits::{LONGEST_STEP, LONGEST_VERDICT, NAMES, PLACES};
+
 const C: &str = "cc -O2 -Wall -Wextra -Werror -Iinclude examples/depot_week.c \
                  -Ltarget/staticlib -lexports";
 const SALE: &str = "cc -O2 -Wall -Wextra -Werror -Iinclude examples/sale.c -Ltarget/staticlib \
@@ -37,6 +40,23 @@ fn printed_by(command: &mut Command) -> String {
 /// What the program prints for a trace.
 fn printed(program: &Path, trace: &Path) -> String {
     printed_by(Command::new(program).arg(trace))
+}
+
+/// The number that the header gives a name.
+fn in_header(name: &str) -> usize {
+    let header = fs::read_to_string(root().join("include/cuudhaqil.h")).expect("it is there");
+    let named = format!("    {name} = ");
+    let line = header.lines().find(|line| line.starts_with(&named)).expect("it has the name");
+    line[named.len()..].trim_end_matches(',').parse().expect("it is a number")
+}
+
+#[test]
+fn the_header_s_sizes_are_those_of_the_documents() {
+    assert_eq!(in_header("CUUDHAQIL_NAMES"), NAMES);
+    assert_eq!(in_header("CUUDHAQIL_PLACES"), PLACES);
+    assert_eq!(in_header("CUUDHAQIL_LEDGER"), LEDGER);
+    assert_eq!(in_header("CUUDHAQIL_LONGEST_STEP"), LONGEST_STEP);
+    assert_eq!(in_header("CUUDHAQIL_LONGEST_VERDICT"), LONGEST_VERDICT);
 }
 
 #[test]

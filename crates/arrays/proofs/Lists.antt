@@ -15,7 +15,7 @@ use Rattle.arrays.specs.Arrays.{pad}
 
 module _ {A : Type 0} where
   -- one element more
-  keep-append : (p : A → Bool) (xs ys : List A) → keep p (xs ++ ys) ≡ keep p xs ++ keep p ys
+  pub keep-append : (p : A → Bool) (xs ys : List A) → keep p (xs ++ ys) ≡ keep p xs ++ keep p ys
   unfolding keep
   keep-append p [] ys = refl
   keep-append p (x ∷ xs) ys = go (p x) (keep-append p xs ys)
@@ -109,7 +109,7 @@ module _ {A : Type 0} (k : ℕ) (z : A) (p : A → Bool) (l : List A) where
 
 -- A loop that looks for an element that passes the test.
 module _ {A : Type 0} (p : A → Bool) where
-  any-append : (xs ys : List A) → any p (xs ++ ys) ≡ (any p xs || any p ys)
+  pub any-append : (xs ys : List A) → any p (xs ++ ys) ≡ (any p xs || any p ys)
   unfolding any
   any-append [] ys = refl
   any-append (x ∷ xs) ys = ap (λ (b : Bool). p x || b) (any-append xs ys) ∙ sym (or-assoc (p x) (any p xs) (any p ys))
@@ -240,10 +240,19 @@ module _ {A B : Type 0} (k : ℕ) (z : B) (f : A → B) (l : List A) where
       ∙ pad-set k z (map f (take i l)) (f (getD l i d)) (omega arith)
       ∙ ap (pad k z) (sym (map-append f (take i l) (getD l i d ∷ [])) ∙ ap (map f) more)
 
-  -- filled to the end
-  pub filled-all : {a : List B} → length l ≡ k → Filled k a → a ≡ map f l
-  filled-all long done =
-      done ∙ ap (λ (m : List A). pad k z (map f m)) (take-all k l (omega arith)) ∙ pad-full k z (map f l) (length-map l f ∙ long)
+  -- A loop that copies: the array has a place for each element of l, and is f of each at the end
+  abbrev pub Copied : ℕ → List B → Type 0
+  Copied i a = (i ≤ k) × (length l ≡ k) × Filled i a
+
+  pub copied-none : length l ≡ k → Copied 0 (replicate k z)
+  copied-none long = (omega arith, long, filled-none)
+
+  module _ {i : ℕ} {a : List B} (done : Copied i a) where
+    pub copied-next : (d : A) → i < k → Copied (i + 1) (set a i (f (getD l i d)))
+    copied-next d h = (omega arith, done .1, filled-next (done .2) d (omega arith) h)
+
+    pub copied-all : k ≤ i → a ≡ map f l
+    copied-all h = done .2 ∙ ap (λ (m : List A). pad k z (map f m)) (take-all i l (omega arith)) ∙ pad-full k z (map f l) (length-map l f ∙ done .1)
 
 pub filled-count : {A B : Type 0} (f : A → B) (i : ℕ) (l : List A) → i ≤ length l → i ≡ length (map f (take i l))
 filled-count f i l h = sym (length-map (take i l) f ∙ length-take-le i l h)

@@ -4,13 +4,13 @@ use mathlib.Core.Path.{_≡_, refl, sym, ap, ap₂, _∙_}
 use mathlib.Core.Logic.{⊎-elim}
 use mathlib.Core.Bool.{Bool, true, _&&_}
 use mathlib.Core.List.{List, [], _∷_, _++_, map, List·Memᴰ·head, List·Memᴰ·tail, List·Memᴰ·not-nil, List·Memᴰ·cases-cons}
-use Prim.Native.Nat.{ℕ, zero, suc, _+_, _-_, _≤_, _<_}
+use Prim.Native.Nat.{ℕ, zero, suc, _-_, _≤_, _<_}
 use native.Mathlib.Nat.{not-suc-le-zero, le-of-suc-le-suc}
 use native.Mathlib.Omega.{arith}
 use borrow.Author.Tests.{leb-true, le-leb, eqb-true, eq-eqb}
 use lib.Dec.{leb, eqb}
-use lib.Seq.{length-take-le, take-all, take-suc, take-take, getD-take}
-use lib.ListN.{length, take, drop, getD, set, replicate, length-map, length-take}
+use lib.Seq.{length-take-le, take-suc, take-take, getD-take}
+use lib.ListN.{length, take, drop, getD, replicate, length-map, length-take}
 use mir.Val.{Val}
 use denote.Laws.{Is}
 use denote.Shadow.{shadow}
@@ -22,7 +22,7 @@ use Rattle.rules.specs.Typed.{isPadded}
 use Rattle.rules.proofs.Lists.{and-left, and-right, and-both, conj-true, true-conj}
 use Rattle.rules.proofs.Typed.{padded-room}
 use Rattle.arrays.specs.Arrays.{pad}
-use Rattle.arrays.proofs.Lists.{pad-laid, laid-pad, take-pad, length-pad, pad-none, pad-full, map-append, same-at, Filled, filled-none, filled-next}
+use Rattle.arrays.proofs.Lists.{pad-laid, laid-pad, take-pad, length-pad, pad-none, map-append, same-at}
 use Rattle.manifests.specs.declared.KeptManifest.{KeptManifest}
 use Rattle.manifests.specs.declared.Manifests.{Manifests}
 use Rattle.manifests.specs.Manifests.{layManifest, manifestOf, noManifest, pastEnd, manifestsOf, layManifests, currentOf, olderOf, isNoManifest, isListLaid, isLaid}
@@ -99,24 +99,6 @@ names-short (x ∷ xs) r m k =
 
 pub kept-short : {ms : Manifests} → Long ms → (m : Manifest) → m ∈ manifestsOf ms → length (m .names) ≤ limits .names
 kept-short {ms} l = names-short (take (ms .count) (ms .items)) (all-take hasRoom (ms .count) (ms .items) (l .names))
-
--- A loop that copies a field of each place into an array that has z at first
-
-module _ {B : Type 0} (z : B) (f : KeptManifest → B) where
-  abbrev pub Copied : Manifests → ℕ → List B → Type 0
-  Copied ms i a = (i ≤ manifestLimit limits) × (length (ms .items) ≡ manifestLimit limits) × Filled (manifestLimit limits) z f (ms .items) i a
-
-  pub copied-none : (ms : Manifests) → length (ms .items) ≡ manifestLimit limits → Copied ms 0 (replicate (manifestLimit limits) z)
-  copied-none ms l = (omega arith, l, filled-none (manifestLimit limits) z f (ms .items))
-
-  module _ (ms : Manifests) (i : ℕ) (a : List B) (done : Copied ms i a) where
-    pub copied-next : i < manifestLimit limits → Copied ms (i + 1) (set a i (f (getD (ms .items) i pastEnd)))
-    copied-next h = (omega arith, done .1, filled-next (manifestLimit limits) z f (ms .items) (done .2) pastEnd (omega arith) h)
-
-    pub copied-all : manifestLimit limits ≤ i → a ≡ map f (ms .items)
-    copied-all h =
-        done .2 ∙ ap (λ (l : List KeptManifest). pad (manifestLimit limits) z (map f l)) (take-all i (ms .items) (omega arith))
-        ∙ pad-full (manifestLimit limits) z (map f (ms .items)) (length-map (ms .items) f ∙ done .1)
 
 -- A place that is laid out is the layout of its manifest
 

@@ -1,26 +1,27 @@
 -- What the type of the objects and their layout tell of the places, and what each place adds to what is asked of them.
 -- Assumes nothing.
 use mathlib.Core.Path.{_≡_, refl, sym, ap, ap₂, _∙_}
-use mathlib.Core.Bool.{Bool, true, false, not, cond, _&&_, false≢true, and-true, and-false}
-use mathlib.Core.List.{List, [], _∷_, map}
+use mathlib.Core.Bool.{Bool, true, false, not, cond, _&&_, _||_, false≢true, and-true, and-false}
+use mathlib.Core.List.{List, [], _∷_, _++_, map}
 use Prim.Native.Nat.{ℕ, suc, _+_, _≤_, _<_}
 use native.Mathlib.Omega.{arith}
 use borrow.Author.Tests.{ne-eqb, eq-eqb, eqb-true, eqb-false, not-true, not-false}
 use lib.Dec.{eqb}
-use lib.ListN.{length, set, length-map}
+use lib.ListN.{length, take, drop, getD, set, length-map, take-append-drop}
+use lib.Seq.{drop-cons}
 use mir.Val.{Val}
 use denote.Laws.{Is}
 use denote.Struct.Field.{u64-field}
 use Rattle.rules.specs.declared.Object.{Object}
 use Rattle.rules.specs.Limits.{limits, wordCount, wordBits}
-use Rattle.rules.specs.Lists.{keep, has, lookup, distinct}
+use Rattle.rules.specs.Lists.{keep, any, has, lookup, distinct}
 use Rattle.rules.specs.State.{occupied}
 use Rattle.rules.specs.Step.{mark}
 use Rattle.rules.specs.Table.{nonzero}
-use Rattle.rules.proofs.Lists.{and-left, and-right, and-both, any-same}
+use Rattle.rules.proofs.Lists.{and-left, and-right, and-both, or-left, or-right, or-false-left, or-false-right, any-same}
 use Rattle.rules.proofs.Laws
 use Rattle.rules.proofs.Object as object
-use Rattle.arrays.proofs.Lists.{any-keep, and-any, any-map, map-set}
+use Rattle.arrays.proofs.Lists.{keep-append, keep-kept, keep-left, any-append, any-keep, and-any, any-map, map-set}
 use Rattle.objects.specs.declared.Objects.{Objects}
 use Rattle.objects.specs.Occupancy.{wordsOf, flagsOf, used, lowestFree, withFlag, ByWords}
 use Rattle.objects.specs.Objects.{wordsAt, layPlaces, same, isLaid, numbersAt, namedAt, currenciesAt, among, beside, currencyAmong, storedIn, currencyIn, namedIn, numbersIn}
@@ -129,18 +130,48 @@ has-kept : (n : ℕ) (ns : List ℕ) → has n (keep nonzero ns) ≡ among ns n
 unfolding has among
 has-kept n ns = any-keep (eqb n) nonzero ns ∙ any-same _ _ ns (λ m i. same-test nonzero n m) ∙ sym (and-any (eqb n) (nonzero n) ns)
 
-module _ (n : ℕ) (ns : List ℕ) where
-  pub distinct-miss : among ns n ≡ true → distinct (keep nonzero (n ∷ ns)) ≡ false
-  unfolding keep distinct among
-  distinct-miss e = rw (and-left (nonzero n) _ e, has-kept n ns, e)
+-- a number that is not among those before it is one more that is distinct
+distinct-more : (n : ℕ) (xs : List ℕ) → distinct xs ≡ true → has n xs ≡ false → distinct (xs ++ n ∷ []) ≡ true
+unfolding distinct has any
+distinct-more n [] d e = refl
+distinct-more n (x ∷ xs) d e =
+    let other : eqb x n ≡ false = ne-eqb x n (λ q. eqb-false n x (or-false-left (eqb n x) (has n xs) e) (sym q)) in
+    let absent : has x (xs ++ n ∷ []) ≡ false = any-append (eqb x) xs (n ∷ []) ∙ rw (not-true (has x xs) (and-left (not (has x xs)) (distinct xs) d), other) in
+    and-both (not (has x (xs ++ n ∷ []))) (distinct (xs ++ n ∷ [])) (ap not absent) (distinct-more n xs (and-right (not (has x xs)) (distinct xs) d) (or-false-right (eqb n x) (has n xs) e))
 
-  pub distinct-hit : among ns n ≡ false → distinct (keep nonzero (n ∷ ns)) ≡ distinct (keep nonzero ns)
-  unfolding keep distinct
-  distinct-hit e = step (nonzero n)
+-- one that is stands there twice
+distinct-twice : (n : ℕ) (xs ys : List ℕ) → has n xs ≡ true → distinct (xs ++ n ∷ ys) ≡ false
+unfolding distinct has any
+distinct-twice n [] ys e = absurd (false≢true e)
+distinct-twice n (x ∷ xs) ys e = step (eqb n x) refl (distinct-twice n xs ys)
+  where
+    step : (b : Bool) → eqb n x ≡ b → (has n xs ≡ true → distinct (xs ++ n ∷ ys) ≡ false) → (not (has x (xs ++ n ∷ ys)) && distinct (xs ++ n ∷ ys)) ≡ false
+    step true q f =
+        let here : eqb x n ≡ true = eq-eqb x n (sym (eqb-true n x q)) in
+        let again : has x (xs ++ n ∷ ys) ≡ true = any-append (eqb x) xs (n ∷ ys) ∙ or-right (has x xs) (eqb x n || has x ys) (or-left (eqb x n) (has x ys) here) in
+        ap (λ (b : Bool). not b && distinct (xs ++ n ∷ ys)) again
+    step false q f =
+        let later : has n xs ≡ true = ap (λ (b : Bool). b || has n xs) (sym q) ∙ e in
+        ap (λ (b : Bool). not (has x (xs ++ n ∷ ys)) && b) (f later) ∙ and-false (not (has x (xs ++ n ∷ ys)))
+
+module _ (ns : List ℕ) (i : ℕ) (h : i < length ns) where
+  abbrev number : ℕ
+  number = getD ns i 0
+
+  pub distinct-next : among (take i ns) number ≡ false → distinct (keep nonzero (take i ns)) ≡ true → distinct (keep nonzero (take (i + 1) ns)) ≡ true
+  distinct-next e d = step (nonzero number) refl
     where
-      step : (b : Bool) → distinct (cond b (n ∷ keep nonzero ns) (keep nonzero ns)) ≡ distinct (keep nonzero ns)
-      step true = rw (has-kept n ns, e)
-      step false = refl
+      step : (b : Bool) → nonzero number ≡ b → distinct (keep nonzero (take (i + 1) ns)) ≡ true
+      step true q = ap distinct (keep-kept nonzero ns i 0 h q) ∙ distinct-more number (keep nonzero (take i ns)) d (has-kept number (take i ns) ∙ e)
+      step false q = ap distinct (keep-left nonzero ns i 0 h q) ∙ d
+
+  pub distinct-not : among (take i ns) number ≡ true → distinct (keep nonzero ns) ≡ false
+  unfolding keep among
+  distinct-not e =
+      let some : nonzero number ≡ true = and-left (nonzero number) (has number (take i ns)) e in
+      ap (λ (l : List ℕ). distinct (keep nonzero l)) (sym (take-append-drop i ns) ∙ ap (λ (l : List ℕ). take i ns ++ l) (drop-cons ns i 0 h))
+      ∙ ap distinct (keep-append nonzero (take i ns) (number ∷ drop (suc i) ns) ∙ ap (λ (b : Bool). keep nonzero (take i ns) ++ cond b (number ∷ keep nonzero (drop (suc i) ns)) (keep nonzero (drop (suc i) ns))) some)
+      ∙ distinct-twice number (keep nonzero (take i ns)) (keep nonzero (drop (suc i) ns)) (has-kept number (take i ns) ∙ e)
 
 -- The occupancy words
 

@@ -168,7 +168,7 @@ impl Objects {
         true
     }
 
-    // Whether no two stored objects have one number.
+    // Whether no two stored objects have one number. Each is looked for among those before it: free places are mostly behind.
     pub fn is_distinct(self) -> bool
         ensures { λ r. ⌜ r ≡ distinct (numbersIn (self .items)) ⌝ }
     {
@@ -176,10 +176,10 @@ impl Objects {
         let mut i: usize = 0;
         while i < PLACES {
             let number = numbers[i];
-            i += 1;
-            if is_among(&numbers[i..], number) {
+            if is_among(&numbers[..i], number) {
                 return false;
             }
+            i += 1;
         }
         true
     }

@@ -1,14 +1,13 @@
 -- `Objects::mark` meets its contract: the places passed are filled with the objects, marked or as they were.
 -- Assumes nothing.
-use mathlib.Core.Path.{_≡_, sym, ap, _∙_, subst}
-use Prim.Native.Nat.{ℕ, _-_, _≤_}
+use mathlib.Core.Path.{sym, ap, _∙_}
+use Prim.Native.Nat.{_-_}
 use native.Mathlib.Omega.{arith}
 use borrow.Author.Needs.{needs}
-use lib.ListN.{length}
 use Rattle.rules.specs.Limits.{limits, wordCount, wordBits}
 use Rattle.rules.specs.State.{free}
 use Rattle.rules.specs.Step.{mark}
-use Rattle.arrays.proofs.Lists.{Filled, filled-none, filled-next, filled-all}
+use Rattle.arrays.proofs.Lists.{Copied, copied-none, copied-next, copied-all}
 use Rattle.objects.specs.declared.Objects.{Objects}
 use Rattle.objects.specs.Occupancy.{wordsOf}
 use Rattle.objects.proofs.Places.{items-long, laid-words, marked-places}
@@ -16,7 +15,7 @@ use Rattle.objects.proofs.Objects.mark.Statement.{statement}
 use Rattle.objects.proofs.Objects.mark.Tie as tie
 
 abbrev Inv-loop : tie.InvT-loop
-Inv-loop list self items₀ i₀ items i = (i ≤ limits .places) × (length (self .items) ≡ limits .places) × Filled (limits .places) free (mark list) (self .items) i items
+Inv-loop list self items₀ i₀ items i = Copied (limits .places) free (mark list) (self .items) i items
 
 abbrev μ-loop : tie.MeasureT-loop
 μ-loop list self items₀ i₀ items i = limits .places - i
@@ -27,7 +26,7 @@ none-requires c κs = search needs
 loop-holds : tie.Need-loop-holds Inv-loop μ-loop
 loop-holds c =
     let s = c .before .before .before .args in
-    (omega arith, items-long (s .t1) _ (c .before .before .before .good .0), rw (ap (λ (o : Objects). o .items) (c .before .none .ensures)) (filled-none (limits .places) free (mark (s .list .now)) (s .t1 .items)))
+    rw (ap (λ (o : Objects). o .items) (c .before .none .ensures)) (copied-none _ free (mark (s .list .now)) (s .t1 .items) (items-long (s .t1) _ (c .before .before .before .good .0)))
 
 mul-o : tie.Need-mul-o Inv-loop μ-loop
 mul-o c = omega arith
@@ -51,18 +50,12 @@ loop-less : tie.Need-loop-less Inv-loop μ-loop
 loop-less c = omega arith
 
 loop-again : tie.Need-loop-again Inv-loop μ-loop
-loop-again c =
-    let h = c .before .before .before .loop .inv in
-    (omega arith, h .1, rw (c .marked .ensures) (filled-next _ _ _ _ (h .2) free (omega arith) (omega arith)))
+loop-again c = rw (c .marked .ensures) (copied-next _ _ _ _ (c .before .before .before .loop .inv) free (omega arith))
 
 returns : tie.Need-returns Inv-loop μ-loop
 returns c =
-    let h = c .before .loop .inv in
     let s = c .before .before .before .before .before .args in
-    let f = mark (s .list .now) in
-    let all : c .before .loop .i ≡ limits .places = omega arith in
-    let done = subst (λ (k : ℕ). Filled (limits .places) free f (s .t1 .items) k (c .before .loop .items)) all (h .2) in
-    let same = filled-all (limits .places) free f (s .t1 .items) (h .1) done in
+    let same = copied-all _ _ (mark (s .list .now)) (s .t1 .items) (c .before .loop .inv) (omega arith) in
     let words = laid-words (s .t1) (c .before .before .before .before .before .pre) ∙ ap (wordsOf wordBits wordCount) (sym (marked-places (s .list .now) (s .t1 .items))) in
     λ j. record { occupancy = words j; items = same j }
 
