@@ -8,7 +8,7 @@ use native.Mathlib.Nat.{sub-zero, not-suc-le-zero, le-of-suc-le-suc}
 use native.Mathlib.Omega.{arith}
 use native.Mathlib.Numerals.{add-one}
 use lib.ListN.{length, getD, take, drop, set, replicate, length-append, length-take, length-replicate, length-map, take-append-drop, length-drop}
-use lib.Seq.{take-all, take-suc, set-append-seam, append-snoc, take-append-seam, length-take-le, getD-take, drop-append-add, drop-append-seam}
+use lib.Seq.{take-all, take-suc, set-append-seam, append-snoc, take-append-seam, length-take-le, drop-append-add, drop-append-seam}
 use Rattle.rules.specs.Lists.{keep, any, all}
 use Rattle.rules.proofs.Lists.{and-left, and-right, and-both}
 use Rattle.arrays.specs.Arrays.{pad}
@@ -125,10 +125,6 @@ module _ {A : Type 0} (p : A → Bool) where
   any-found [] i d h here = absurd (not-suc-le-zero h)
   any-found (x ∷ xs) zero d h here = ap (λ (b : Bool). b || any p xs) here
   any-found (x ∷ xs) (suc i) d h here = ap (λ (b : Bool). p x || b) (any-found xs i d (omega arith) here) ∙ or-true (p x)
-
-  pub any-found-in : (k : ℕ) (l : List A) (i : ℕ) (d : A) → i < k → k ≤ length l → p (getD l i d) ≡ true → any p (take k l) ≡ true
-  any-found-in k l i d h room here =
-      any-found (take k l) i d (rw (length-take-le k l room) h) (ap p (getD-take k l i d h) ∙ here)
 
 -- A list whose elements are laid out anew, g after f, and come back the same.
 module _ {A B : Type 0} (f : A → B) (g : B → A) where

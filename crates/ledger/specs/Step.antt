@@ -10,14 +10,13 @@ use Rattle.rules.specs.declared.Answer.the-variants.{Refused}
 use Rattle.rules.specs.declared.Step.{Step}
 use Rattle.rules.specs.declared.NameList.{NameList}
 use Rattle.rules.specs.declared.Object.{Object}
-use Rattle.rules.specs.declared.ObjectList.{ObjectList}
 use Rattle.rules.specs.Lists.{keep, has, risingAbove}
 use Rattle.rules.specs.Limits.{limits}
 use Rattle.rules.specs.Table.{wellFormed}
 use Rattle.rules.specs.Sound.{sound}
 use Rattle.rules.specs.Request.{Request}
 use Rattle.rules.specs.Step.{Reply, alone, effect, granted, verdict}
-use Rattle.rules.specs.Typed.{isPadded, namesOf, objectsOf, requestOf, canSay, verdictOf}
+use Rattle.rules.specs.Typed.{isPadded, namesOf, requestOf, canSay, verdictOf}
 use Rattle.objects.specs.Objects.{currencyIn}
 use Rattle.ledger.specs.declared.Ledger.{Ledger}
 use Rattle.ledger.specs.declared.StepAnswer.{StepAnswer}
@@ -71,10 +70,3 @@ pub record Insertable (l : NameList) (n : ℕ) : Type 0 where
   pub room : l .count < limits .names
   pub rising : risingAbove 0 (namesOf l) ≡ true
   pub absent : has n (namesOf l) ≡ false
-
--- the same of a list of objects that are to go
-pub record Collectable (l : ObjectList) (n : ℕ) : Type 0 where
-  pub padded : isPadded (l .count) (l .objects) ≡ true
-  pub room : l .count < limits .places
-  pub rising : risingAbove 0 (objectsOf l) ≡ true
-  pub absent : has n (objectsOf l) ≡ false
