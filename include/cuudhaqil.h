@@ -21,16 +21,17 @@ enum {
     CUUDHAQIL_LONGEST_VERDICT = 2058
 };
 
-/* Store names: 20 decimal digits and ".manifest" or ".sst". */
+/* Store names, with their folders: "manifest/", 20 decimal digits and ".manifest"; "wal/", 20 decimal digits and ".sst". */
 
 /* Reads all the bytes as one name.
  * 0: a manifest's name, 1: an object's; number[0] is its number, and the elements beyond it stay.
- * 2: no name (another length, suffix or byte, a number above 2^64 - 1, object 0); number stays.
+ * 2: no name (no folder or that of the other kind, another length, suffix or byte, a number above 2^64 - 1, object 0);
+ *    number stays.
  * 3: number has no element; this goes first. */
 uint64_t cuudhaqil_read_name(const uint8_t *name, size_t name_len, uint64_t *number, size_t number_len);
 
 /* Writes the name of that kind (0 a manifest, 1 an object) and number at the start of out.
- * 29 for a manifest, 24 for an object: as many bytes were written, and those beyond them stay.
+ * 38 for a manifest, 28 for an object: as many bytes were written, and those beyond them stay.
  * 2: no reader takes such a name (object 0, another kind); this goes first, and out stays.
  * 0: out is too short; out stays. */
 uint64_t cuudhaqil_write_name(uint64_t kind, uint64_t number, uint8_t *out, size_t out_len);

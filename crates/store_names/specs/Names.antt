@@ -1,4 +1,5 @@
--- Store names (document 01, "Records and names"): what a name's bytes are, what the reader and the writer answer.
+-- Store names (document 01, "Records and names"; document 02, request 5): what a name's bytes are, what the reader and the
+-- writer answer.
 -- Assumes nothing.
 use mathlib.Core.Bool.{Bool, true, false, not, cond, _&&_}
 use mathlib.Core.List.{List, [], _∷_, _++_}
@@ -26,10 +27,17 @@ manifestSuffix = 46 ∷ 109 ∷ 97 ∷ 110 ∷ 105 ∷ 102 ∷ 101 ∷ 115 ∷ 1
 abbrev pub objectSuffix : List ℕ
 objectSuffix = 46 ∷ 115 ∷ 115 ∷ 116 ∷ []
 
+-- "`manifest/` before a manifest name, `wal/` before an object name"
+abbrev pub manifestFolder : List ℕ
+manifestFolder = 109 ∷ 97 ∷ 110 ∷ 105 ∷ 102 ∷ 101 ∷ 115 ∷ 116 ∷ 47 ∷ []
+
+abbrev pub objectFolder : List ℕ
+objectFolder = 119 ∷ 97 ∷ 108 ∷ 47 ∷ []
+
 -- a name's bytes
 abbrev pub encode : Name → List ℕ
-encode (Manifest n) = digits nameDigits n ++ manifestSuffix
-encode (Object n) = digits nameDigits n ++ objectSuffix
+encode (Manifest n) = manifestFolder ++ digits nameDigits n ++ manifestSuffix
+encode (Object n) = objectFolder ++ digits nameDigits n ++ objectSuffix
 
 -- the names that a reader takes: an object's number isn't 0, and none is above the largest
 abbrev pub isTaken : Name → Bool
@@ -43,9 +51,13 @@ sameBytes [] (b ∷ bs) = false
 sameBytes (a ∷ as′) [] = false
 sameBytes (a ∷ as′) (b ∷ bs) = eqb a b && sameBytes as′ bs
 
--- the number of a name that ends in that suffix: as many digits as a name has, then the suffix and nothing more
+-- the number before that suffix: as many digits as a name has, then the suffix and nothing more
 unfoldable pub numberBefore : List ℕ → List ℕ → Decimal
 numberBefore suffix bytes = cond (leb nameDigits (length bytes) && sameBytes (drop nameDigits bytes) suffix) (decimal (take nameDigits bytes)) Bad
+
+-- the number of a name in that folder and with that suffix: the folder first, as part of the name
+unfoldable pub numberIn : List ℕ → List ℕ → List ℕ → Decimal
+numberIn folder suffix bytes = cond (sameBytes (take (length folder) bytes) folder) (numberBefore suffix (drop (length folder) bytes)) Bad
 
 -- an object isn't 0
 abbrev pub objectRead : Decimal → NameRead
@@ -56,9 +68,9 @@ abbrev pub manifestOr : Decimal → NameRead → NameRead
 manifestOr Bad other = other
 manifestOr (Number n) other = IsName (Manifest n)
 
--- what the reader answers: all the bytes are one name
+-- what the reader answers: all the bytes are one name, and its folder says which
 unfoldable pub decode : List ℕ → NameRead
-decode bytes = manifestOr (numberBefore manifestSuffix bytes) (objectRead (numberBefore objectSuffix bytes))
+decode bytes = manifestOr (numberIn manifestFolder manifestSuffix bytes) (objectRead (numberIn objectFolder objectSuffix bytes))
 
 -- what a writer answers and leaves of the buffer
 pub record Writing : Type 0 where

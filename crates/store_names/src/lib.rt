@@ -1,15 +1,21 @@
-// Store names (document 01, "Records and names"): a manifest's name is 20 zero-padded decimal digits and `.manifest`,
-// an object's 20 digits and `.sst`. One reader and one writer, each undoing the other.
+// Store names (document 01, "Records and names"; document 02, request 5): a manifest's name is the folder `manifest/`, 20
+// zero-padded decimal digits and `.manifest`, an object's `wal/`, 20 digits and `.sst`. One reader and one writer, each
+// undoing the other.
 ghost use mathlib.Core.Path.{_≡_};
 ghost use mathlib.Core.List.{_++_};
 ghost use lib.ListN.{length};
 ghost use Rattle.store_names.specs.Decimal.{decimal, digits};
-ghost use Rattle.store_names.specs.Names.{nameDigits, sameBytes, numberBefore, decode, putFirst, writing};
+ghost use Rattle.store_names.specs.Names.{nameDigits, sameBytes, numberBefore, numberIn, decode, putFirst, writing};
 
 // How many digits a name has.
 const DIGITS: usize = 20;
 
 const LARGEST: u64 = 18446744073709551615;
+
+// What a name begins with, by its kind: the folder it is in.
+const MANIFEST_FOLDER: [u8; 9] = *b"manifest/";
+
+const OBJECT_FOLDER: [u8; 4] = *b"wal/";
 
 // What a name ends in, by its kind.
 const MANIFEST_SUFFIX: [u8; 9] = *b".manifest";
@@ -82,7 +88,7 @@ fn same_bytes(a: &[u8], b: &[u8]) -> bool
     true
 }
 
-// The number of a name that ends in `suffix`.
+// The number of digits with `suffix` behind them.
 fn read_before(name: &[u8], suffix: &[u8]) -> Decimal
     ensures { λ r. ⌜ r ≡ numberBefore (now (suffix .entry)) (now (name .entry)) ⌝ }
 {
@@ -95,15 +101,28 @@ fn read_before(name: &[u8], suffix: &[u8]) -> Decimal
     read_digits(&name[..DIGITS])
 }
 
+// The number of a name in that folder and with that suffix.
+fn read_in(folder: &[u8], suffix: &[u8], name: &[u8]) -> Decimal
+    ensures { λ r. ⌜ r ≡ numberIn (now (folder .entry)) (now (suffix .entry)) (now (name .entry)) ⌝ }
+{
+    if name.len() < folder.len() {
+        return Decimal::Bad;
+    }
+    if !same_bytes(&name[..folder.len()], folder) {
+        return Decimal::Bad;
+    }
+    read_before(&name[folder.len()..], suffix)
+}
+
 // Takes all the bytes lent as one name.
 pub fn read_name(name: &[u8]) -> NameRead
     ensures { λ r. ⌜ r ≡ decode (now (name .entry)) ⌝ }
 {
-    let manifest = read_before(name, &MANIFEST_SUFFIX);
+    let manifest = read_in(&MANIFEST_FOLDER, &MANIFEST_SUFFIX, name);
     if let Decimal::Number(n) = manifest {
         return NameRead::Name(Name::Manifest(n));
     }
-    let object = read_before(name, &OBJECT_SUFFIX);
+    let object = read_in(&OBJECT_FOLDER, &OBJECT_SUFFIX, name);
     let Decimal::Number(k) = object else {
         return NameRead::Malformed;
     };
@@ -138,16 +157,21 @@ fn copy_bytes(from: &[u8], to: &mut [u8])
     }
 }
 
-// Writes the digits of n and then `suffix` at the start of `out`, where there is room.
-fn put_before(n: u64, suffix: &[u8], out: &mut [u8]) -> NameWrite
-    ensures { λ r. ⌜ putFirst (digits nameDigits n ++ now (suffix .entry)) (now (out .entry)) ≡ record { answer = r; buffer = now (out .exit) } ⌝ }
+// Writes the folder, the digits of n and the suffix at the start of `out`, where there is room.
+fn put_in(folder: &[u8], suffix: &[u8], n: u64, out: &mut [u8]) -> NameWrite
+    ensures { λ r. ⌜ putFirst (now (folder .entry) ++ digits nameDigits n ++ now (suffix .entry)) (now (out .entry)) ≡ record { answer = r; buffer = now (out .exit) } ⌝ }
 {
-    let size = DIGITS + suffix.len();
-    if out.len() < size {
+    let before = folder.len() + DIGITS;
+    if out.len() < before {
         return NameWrite::Full;
     }
-    put_digits(n, &mut out[..DIGITS]);
-    copy_bytes(suffix, &mut out[DIGITS..size]);
+    if out.len() - before < suffix.len() {
+        return NameWrite::Full;
+    }
+    let size = before + suffix.len();
+    copy_bytes(folder, &mut out[..folder.len()]);
+    put_digits(n, &mut out[folder.len()..before]);
+    copy_bytes(suffix, &mut out[before..size]);
     NameWrite::Written(size)
 }
 
@@ -156,12 +180,12 @@ pub fn write_name(name: Name, out: &mut [u8]) -> NameWrite
     ensures { λ r. ⌜ writing name (now (out .entry)) ≡ record { answer = r; buffer = now (out .exit) } ⌝ }
 {
     match name {
-        Name::Manifest(n) => put_before(n, &MANIFEST_SUFFIX, out),
+        Name::Manifest(n) => put_in(&MANIFEST_FOLDER, &MANIFEST_SUFFIX, n, out),
         Name::Object(n) => {
             if n == 0 {
                 return NameWrite::Malformed;
             }
-            put_before(n, &OBJECT_SUFFIX, out)
+            put_in(&OBJECT_FOLDER, &OBJECT_SUFFIX, n, out)
         }
     }
 }

@@ -49,11 +49,11 @@ fn read(name: &[u8]) {
     say(b"\n");
 }
 
-// What writing into the first `room` of 32 bytes '#' gives, and all 32 bytes then.
+// What writing into the first `room` of 40 bytes '#' gives, and all 40 bytes then.
 fn write(v: Name, room: usize)
-    requires { ⌜ room ≤ 32 ⌝ }
+    requires { ⌜ room ≤ 40 ⌝ }
 {
-    let mut out = [b'#'; 32];
+    let mut out = [b'#'; 40];
     say(b"write ");
     say_name(v);
     say(b" in ");
@@ -67,80 +67,114 @@ fn write(v: Name, room: usize)
 
 // Every digit, in its place.
 fn read_every_digit() {
-    read(b"01234567890123456789.manifest");
-    read(b"09876543210987654321.sst");
+    read(b"manifest/01234567890123456789.manifest");
+    read(b"wal/09876543210987654321.sst");
 }
 
 // The smallest and the largest of each kind, and what is just outside.
 fn read_bounds() {
-    read(b"00000000000000000000.manifest");
-    read(b"18446744073709551615.manifest");
-    read(b"18446744073709551616.manifest");
-    read(b"99999999999999999999.manifest");
-    read(b"00000000000000000000.sst");
-    read(b"00000000000000000001.sst");
-    read(b"18446744073709551615.sst");
-    read(b"18446744073709551616.sst");
-    read(b"99999999999999999999.sst");
+    read(b"manifest/00000000000000000000.manifest");
+    read(b"manifest/18446744073709551615.manifest");
+    read(b"manifest/18446744073709551616.manifest");
+    read(b"manifest/99999999999999999999.manifest");
+    read(b"wal/00000000000000000000.sst");
+    read(b"wal/00000000000000000001.sst");
+    read(b"wal/18446744073709551615.sst");
+    read(b"wal/18446744073709551616.sst");
+    read(b"wal/99999999999999999999.sst");
+}
+
+// Bare names, crossed folders, and folders that are none: cut, doubled, another byte, another word, upper case.
+fn read_folders() {
+    read(b"00000000000000000007.manifest");
+    read(b"00000000000000000007.sst");
+    read(b"wal/00000000000000000007.manifest");
+    read(b"manifest/00000000000000000007.sst");
+    read(b"anifest/00000000000000000007.manifest");
+    read(b"manifest00000000000000000007.manifest");
+    read(b"manifest//00000000000000000007.manifest");
+    read(b"manifest/manifest/00000000000000000007.manifest");
+    read(b"manifesu/00000000000000000007.manifest");
+    read(b"manifest.00000000000000000007.manifest");
+    read(b"MANIFEST/00000000000000000007.manifest");
+    read(b"al/00000000000000000007.sst");
+    read(b"wal00000000000000000007.sst");
+    read(b"wal/wal/00000000000000000007.sst");
+    read(b"wam/00000000000000000007.sst");
+    read(b"val/00000000000000000007.sst");
+    read(b"Wal/00000000000000000007.sst");
+    read(b"/wal/00000000000000000007.sst");
+    read(b"log/00000000000000000007.sst");
 }
 
 // Too few bytes, and too many.
 fn read_lengths() {
     read(b"");
-    read(b"00000000000000000007");
-    read(b".manifest");
-    read(b"0000000000000000007.manifest");
-    read(b"00000000000000000007.manifes");
-    read(b"0000000000000000007.sst");
-    read(b"00000000000000000007.ss");
-    read(b"000000000000000000007.manifest");
-    read(b"00000000000000000007.manifest0");
-    read(b"000000000000000000007.sst");
-    read(b"00000000000000000007.sst.manifest");
+    read(b"manifest");
+    read(b"manifest/");
+    read(b"wal");
+    read(b"wal/");
+    read(b"wal/00000000000000000007");
+    read(b"manifest/.manifest");
+    read(b"manifest/0000000000000000007.manifest");
+    read(b"manifest/00000000000000000007.manifes");
+    read(b"wal/0000000000000000007.sst");
+    read(b"wal/00000000000000000007.ss");
+    read(b"manifest/000000000000000000007.manifest");
+    read(b"manifest/00000000000000000007.manifest0");
+    read(b"wal/000000000000000000007.sst");
+    read(b"wal/00000000000000000007.sst0");
+    read(b"manifest/00000000000000000007.sst.manifest");
 }
 
 // Another suffix: another word, another last byte, upper case.
 fn read_suffixes() {
-    read(b"00000000000000000007.tmp");
-    read(b"00000000000000000007-sst");
-    read(b"00000000000000000007.manifesu");
-    read(b"00000000000000000007.ssu");
-    read(b"00000000000000000007.MANIFEST");
-    read(b"00000000000000000007.SST");
-    read(b"00000000000000000007.manifesT");
+    read(b"wal/00000000000000000007.tmp");
+    read(b"wal/00000000000000000007-sst");
+    read(b"manifest/00000000000000000007.manifesu");
+    read(b"wal/00000000000000000007.ssu");
+    read(b"manifest/00000000000000000007.MANIFEST");
+    read(b"wal/00000000000000000007.SST");
+    read(b"manifest/00000000000000000007.manifesT");
 }
 
 // A byte that is no digit among the digits: a letter, a space, and the bytes on both sides of the digits.
 fn read_other_bytes() {
-    read(b"0000000000a000000007.manifest");
-    read(b"0000000000000000000a.sst");
-    read(b" 0000000000000000007.manifest");
-    read(b"0000000000000000000 .sst");
-    read(b"0000000000000000000/.manifest");
-    read(b"0000000000000000000:.manifest");
-    read(b"/0000000000000000007.sst");
-    read(b":0000000000000000007.sst");
+    read(b"manifest/0000000000a000000007.manifest");
+    read(b"wal/0000000000000000000a.sst");
+    read(b"manifest/ 0000000000000000007.manifest");
+    read(b"wal/0000000000000000000 .sst");
+    read(b"manifest/0000000000000000000/.manifest");
+    read(b"manifest/0000000000000000000:.manifest");
+    read(b"wal//0000000000000000007.sst");
+    read(b"wal/:0000000000000000007.sst");
 }
 
-// More room than the name takes, exact room, a byte too little, and none. Object 0 is malformed whatever the room.
+// More room than the name takes, exact room, a byte too little, not even the folder's, and none. Object 0 is malformed
+// whatever the room.
 fn write_rooms() {
-    write(Name::Manifest(1234567890123456789), 32);
-    write(Name::Object(9876543210987654321), 32);
-    write(Name::Manifest(0), 32);
-    write(Name::Manifest(18446744073709551615), 29);
+    write(Name::Manifest(1234567890123456789), 40);
+    write(Name::Object(9876543210987654321), 40);
+    write(Name::Manifest(0), 40);
+    write(Name::Manifest(18446744073709551615), 38);
+    write(Name::Manifest(7), 37);
     write(Name::Manifest(7), 28);
+    write(Name::Manifest(7), 8);
     write(Name::Manifest(7), 0);
-    write(Name::Object(1), 32);
-    write(Name::Object(18446744073709551615), 24);
+    write(Name::Object(1), 40);
+    write(Name::Object(18446744073709551615), 28);
+    write(Name::Object(7), 27);
     write(Name::Object(7), 23);
+    write(Name::Object(7), 3);
     write(Name::Object(7), 0);
-    write(Name::Object(0), 32);
+    write(Name::Object(0), 40);
     write(Name::Object(0), 0);
 }
 
 fn main() {
     read_every_digit();
     read_bounds();
+    read_folders();
     read_lengths();
     read_suffixes();
     read_other_bytes();

@@ -10,9 +10,9 @@ use borrow.Author.Needs.{needs}
 use Rattle.store_names_vectors.proofs.write.Statement.{statement}
 use Rattle.store_names_vectors.proofs.write.Tie as tie
 
--- what is lent: 32 bytes '#'
+-- what is lent: 40 bytes '#'
 abbrev hashes : List ℕ
-hashes = replicate 32 35
+hashes = replicate 40 35
 
 slice-aggregate-say : tie.Need-slice-aggregate-say
 slice-aggregate-say c = search needs
