@@ -6,21 +6,13 @@ ghost use Rattle.replay.specs.Replay.{cut};
 ghost use Rattle.console.specs.Code.{ShowsCode};
 use ledger::Ledger;
 use libc::STDIN_FILENO;
-use libc::STDOUT_FILENO;
 use records::LONGEST_VERDICT;
 use replay::Front;
+use terminal::say;
+use terminal::say_number;
 
 // A verdict's code stands behind the head of the record and that of its first field, a tag and a two-byte length each.
 const CODE_AT: usize = 6;
-
-fn say(text: &[u8]) {
-    io::write_all(STDOUT_FILENO, text);
-}
-
-fn say_number(n: u64) {
-    io::print_decimal(STDOUT_FILENO, n);
-    say(b"\n");
-}
 
 fn say_code(code: u8) {
     say_number(code as u64);
@@ -62,17 +54,11 @@ fn judge_trace(trace: &[u8]) {
     say_number(unread as u64);
 }
 
-// Whether standard input goes on.
-fn is_more() -> bool {
-    let mut next = [0; 1];
-    io::read_full(STDIN_FILENO, &mut next) > 0
-}
-
 // Judges standard input, at most 65,536 bytes; of a longer trace nothing is judged.
 pub fn judge() {
     let mut space = io::large_buffer();
     let n = io::read_full(STDIN_FILENO, &mut space);
-    if n == space.len() && is_more() {
+    if n == space.len() && terminal::is_more() {
         say(b"too long\n");
         return;
     }

@@ -1,0 +1,4 @@
+// Lists standard input. Its stored listing has a stray file.
+fn main() {
+    bucket::list();
+}

@@ -1,0 +1,4 @@
+// Lists standard input. Its stored listing is empty.
+fn main() {
+    bucket::list();
+}
