@@ -11,7 +11,7 @@ fn main() {
         let archives = Path::new(&package).join("../target/staticlib");
         println!("cargo:rustc-link-search=native={}", archives.display());
         // A new archive has to be linked anew; cargo doesn't see it otherwise.
-        for archive in ["libexports.a", "libdesk_exports.a"] {
+        for archive in ["libexports.a", "libdesk_exports.a", "liblisting_exports.a"] {
             println!("cargo:rerun-if-changed={}", archives.join(archive).display());
         }
     }

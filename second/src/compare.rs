@@ -1,11 +1,13 @@
 //! Comparison of two name codecs, given as closures: document 01, the
-//! paragraph that begins "A manifest's name is".
+//! paragraph that begins "A manifest's name is", with the folders of document
+//! 02, request 5.
 //!
 //! Both sides keep the calling convention of the proved library's C calls,
 //! so that also what a refusal leaves untouched is compared.
 
 pub mod desk;
 pub mod ledgers;
+pub mod listing;
 pub mod records;
 pub mod traces;
 
@@ -30,7 +32,8 @@ fn add(sum: &mut Answers, other: Answers) {
 
 /// Bytes or numbers on either side of the lent ones, which no call may touch.
 const MARGIN: usize = 8;
-const LONGEST_ROOM: usize = 40;
+/// Some bytes more than the longest name, which has 38.
+const LONGEST_ROOM: usize = 48;
 
 /// 0 a manifest, 1 an object, with its number in the first place lent; 2
 /// malformed; 3 where no place is lent.
@@ -102,7 +105,7 @@ pub fn compare_reads(
 }
 
 /// Compares two writers on the edge values and on `count` random ones, each
-/// with several kinds and every room up to 40; the error describes the first
+/// with several kinds and every room up to 48; the error describes the first
 /// difference.
 pub fn compare_writes(
     random: &mut Random,
@@ -145,22 +148,22 @@ mod tests {
         let reads = compare_reads(&mut Random::new(5), 20_000, read_name, read_name).unwrap();
         assert_eq!(reads.keys().copied().collect::<Vec<_>>(), [0, 1, 2, 3]);
         let writes = compare_writes(&mut Random::new(6), 20, write_name, write_name).unwrap();
-        assert_eq!(writes.keys().copied().collect::<Vec<_>>(), [0, 2, 24, 29]);
+        assert_eq!(writes.keys().copied().collect::<Vec<_>>(), [0, 2, 28, 38]);
     }
 
     /// Each wrong reader differs from the right one in one respect only.
     #[test]
     fn wrong_readers_are_reported() {
         type Reader = fn(&[u8], &mut [u64]) -> u64;
-        let wrong: [Reader; 5] = [
+        let wrong: [Reader; 9] = [
             |_, _| 2,
             |name, number| match name {
-                b"00000000000000000000.sst" if !number.is_empty() => 1,
+                b"wal/00000000000000000000.sst" if !number.is_empty() => 1,
                 _ => read_name(name, number),
             },
             |name, number| match name {
                 // One above the largest value, taken modulo 2^64.
-                b"18446744073709551616.manifest" if !number.is_empty() => {
+                b"manifest/18446744073709551616.manifest" if !number.is_empty() => {
                     number[0] = 0;
                     0
                 }
@@ -178,6 +181,29 @@ mod tests {
                 number.iter_mut().skip(1).for_each(|place| *place = 0);
                 answer
             },
+            // A bare name is taken; a crossed folder, which names the kind.
+            |name, number| match name.len() {
+                24 => read_name(&[b"wal/".as_slice(), name].concat(), number),
+                _ => read_name(name, number),
+            },
+            |name, number| match name.strip_prefix(b"manifest/") {
+                Some(rest) if rest.ends_with(b".sst") => {
+                    let digits = &rest[..rest.len() - 4];
+                    read_name(&[b"manifest/".as_slice(), digits, b".manifest"].concat(), number)
+                }
+                _ => read_name(name, number),
+            },
+            // The folder's case, or its last byte, plays no part.
+            |name, number| match name.strip_prefix(b"WAL/") {
+                Some(rest) => read_name(&[b"wal/".as_slice(), rest].concat(), number),
+                None => read_name(name, number),
+            },
+            |name, number| match name.split_at_checked(9) {
+                Some((b"manifest\\", rest)) => {
+                    read_name(&[b"manifest/".as_slice(), rest].concat(), number)
+                }
+                _ => read_name(name, number),
+            },
         ];
         for (index, side) in wrong.into_iter().enumerate() {
             let result = compare_reads(&mut Random::new(7), 20_000, side, read_name);
@@ -189,8 +215,18 @@ mod tests {
     #[test]
     fn wrong_writers_are_reported() {
         type Writer = fn(u64, u64, &mut [u8]) -> u64;
-        let wrong: [Writer; 5] = [
+        let wrong: [Writer; 6] = [
             |_, _, _| 2,
+            // The bare name.
+            |kind, value, out| {
+                let answer = write_name(kind, value, out);
+                match answer {
+                    28 => out.copy_within(4..28, 0),
+                    38 => out.copy_within(9..38, 0),
+                    _ => {}
+                }
+                answer
+            },
             // "Room is short" before 2.
             |kind, value, out| match write_name(kind, value, out) {
                 2 if out.is_empty() => 0,

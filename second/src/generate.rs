@@ -2,6 +2,7 @@
 //! formed and damaged: document 01, "Records and names".
 
 pub mod guided;
+pub mod listings;
 pub mod loose;
 pub mod names;
 pub mod sheets;

@@ -1,6 +1,6 @@
-//! A second implementation of the ledger of document 01 and of requests 1, 2
-//! and 4 of document 02, written from the documents alone, with which the proved
-//! library is compared.
+//! A second implementation of the ledger of document 01 and of requests 1, 2,
+//! 4 and 5 of document 02, written from the documents alone, with which the
+//! proved library is compared.
 
 pub mod compare;
 pub mod depot;
@@ -8,6 +8,7 @@ pub mod desk;
 pub mod generate;
 pub mod ledger;
 pub mod limits;
+pub mod listing;
 pub mod names;
 #[cfg(feature = "proved")]
 pub mod proved;

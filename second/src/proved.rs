@@ -97,6 +97,12 @@ extern "C" {
     ) -> u64;
 }
 
+#[link(name = "listing_exports", kind = "static")]
+extern "C" {
+    fn cuudhaqil_read_listing(listing: *const u8, n: usize, numbers: *mut u64, count: usize)
+        -> u64;
+}
+
 pub fn read_name(name: &[u8], number: &mut [u64]) -> u64 {
     let (numbers, place) = (number.len(), number.as_mut_ptr());
     // SAFETY: both pointers come from slices of the lengths given.
@@ -215,4 +221,10 @@ pub fn fill_card(ledger: &mut [u64], time: u64, hold: u64, count: u64, card: &mu
     // SAFETY: the pointers come from slices of the lengths given, and those
     // that may be written do not overlap.
     unsafe { cuudhaqil_fill_card(ledger, size, time, hold, count, card, numbers) }
+}
+
+pub fn read_listing(listing: &[u8], numbers: &mut [u64]) -> u64 {
+    let (n, count) = (listing.len(), numbers.len());
+    // SAFETY: both pointers come from slices of the lengths given.
+    unsafe { cuudhaqil_read_listing(listing.as_ptr(), n, numbers.as_mut_ptr(), count) }
 }

@@ -1,9 +1,11 @@
 //! The stored traces: the examples', and the inputs of the program `judge`
-//! with what it prints.
+//! with what it prints; and likewise the listings of `list_bucket`.
 
 use crate::depot;
 use crate::generate::guided::Guide;
 use crate::ledger::Ledger;
+use crate::listing::{list_bucket, LONGEST_LISTING};
+use crate::names::{self, Name};
 use crate::random::Random;
 use crate::records::{next_record, write_step, Next};
 use crate::run::{judge, LONGEST_TRACE};
@@ -16,7 +18,10 @@ pub type File = (String, Vec<u8>);
 const SEED: u64 = 20_240_860;
 
 pub fn examples() -> Vec<File> {
-    vec![("depot_week.trace".to_string(), depot::trace())]
+    vec![
+        ("depot_week.trace".to_string(), depot::trace()),
+        ("bucket.listing".to_string(), bucket().concat()),
+    ]
 }
 
 /// In the folder of each program crate its input and what it prints.
@@ -35,6 +40,66 @@ pub fn judged() -> Vec<File> {
         files.push((format!("{crate_name}/stdin"), input));
     }
     files
+}
+
+/// In the folder of each program crate its listing and what it prints.
+pub fn listed() -> Vec<File> {
+    let mut files = Vec::new();
+    for (crate_name, input) in listings() {
+        files.push((format!("{crate_name}/stdout"), list_bucket(&input).into_bytes()));
+        // Where nothing is stored, nothing is read.
+        if !input.is_empty() {
+            files.push((format!("{crate_name}/stdin"), input));
+        }
+    }
+    files
+}
+
+/// The program crates' listings.
+pub fn listings() -> Vec<(&'static str, Vec<u8>)> {
+    let longest = longest_listing();
+    let too_long = [&longest[..], b"\n"].concat();
+    vec![
+        ("list_bucket", bucket().concat()),
+        ("list_bucket_empty", Vec::new()),
+        ("list_bucket_bad", bad_bucket().concat()),
+        ("list_bucket_longest", longest),
+        ("list_bucket_too_long", too_long),
+    ]
+}
+
+fn line(name: Name) -> Vec<u8> {
+    let mut line = names::write(name).expect("no sample has object 0");
+    line.push(b'\n');
+    line
+}
+
+/// A depot's bucket after some weeks: collected objects have left gaps.
+fn bucket() -> Vec<Vec<u8>> {
+    let manifests = (0..=5).map(Name::Manifest);
+    let objects = [2, 5, 6, 9, 11, 12, 13, 17, 20, 21, 24, 30].map(Name::Object);
+    manifests.chain(objects).map(line).collect()
+}
+
+/// The same bucket with a stray file in its place by byte order, line 9, and so
+/// behind six manifests and three objects.
+fn bad_bucket() -> Vec<Vec<u8>> {
+    let mut lines = bucket();
+    lines.insert(9, b"wal/00000000000000000006.sst.tmp\n".to_vec());
+    lines
+}
+
+/// As many bytes as the program takes: 17 lines of 39 bytes and 2,237 of 29,
+/// up to the highest numbers, the objects' spread over all.
+fn longest_listing() -> Vec<u8> {
+    const MANIFESTS: u64 = 17;
+    const OBJECTS: u64 = 2_237;
+    let manifests = (0..MANIFESTS).rev().map(|back| Name::Manifest(u64::MAX - back));
+    let step = u64::MAX / OBJECTS;
+    let objects = (0..OBJECTS).rev().map(|back| Name::Object(u64::MAX - back * step));
+    let listing = manifests.chain(objects).map(line).collect::<Vec<_>>().concat();
+    assert_eq!(listing.len(), LONGEST_LISTING);
+    listing
 }
 
 /// The first five records of the week, and all but one byte of the sixth.
@@ -103,13 +168,16 @@ mod tests {
         assert!(longest_steps > 0 && longest_verdicts > 0);
     }
 
+    /// What the file of that name has.
+    fn text(files: &[File], name: &str) -> String {
+        let file = files.iter().find(|file| file.0 == name).expect("it is written");
+        String::from_utf8(file.1.clone()).expect("it is text")
+    }
+
     #[test]
     fn the_program_prints_each_code_and_the_bytes_unread() {
         let files = judged();
-        let printed = |name: &str| {
-            let file = files.iter().find(|file| file.0 == name).expect("it is written");
-            String::from_utf8(file.1.clone()).expect("it is text")
-        };
+        let printed = |name: &str| text(&files, name);
         let codes: Vec<String> =
             depot::week().iter().map(|(_, verdict)| format!("{}\n", verdict.code())).collect();
         assert_eq!(printed("judge/stdout"), codes.concat() + "rest 0\n");
@@ -117,5 +185,25 @@ mod tests {
         assert_eq!(printed("judge_empty/stdout"), "rest 0\n");
         assert_eq!(printed("judge_too_long/stdout"), "too long\n");
         assert!(printed("judge_longest/stdout").lines().count() > 1_000);
+    }
+
+    #[test]
+    fn the_listings_are_as_long_as_they_say() {
+        let lengths: Vec<usize> = listings().iter().map(|(_, input)| input.len()).collect();
+        assert_eq!(lengths, [6 * 39 + 12 * 29, 0, 6 * 39 + 12 * 29 + 33, 65_536, 65_537]);
+    }
+
+    #[test]
+    fn the_program_prints_what_a_listing_says() {
+        let files = listed();
+        let printed = |name: &str| text(&files, &format!("{name}/stdout"));
+        assert_eq!(printed("list_bucket"), "manifest 5\nobjects 12\nwhole\n");
+        assert_eq!(printed("list_bucket_empty"), "no manifest\nobjects 0\nwhole\n");
+        assert_eq!(printed("list_bucket_bad"), "manifest 5\nobjects 3\nbad 9\n");
+        assert_eq!(
+            printed("list_bucket_longest"),
+            "manifest 18446744073709551615\nobjects 2237\nwhole\n"
+        );
+        assert_eq!(printed("list_bucket_too_long"), "too long\n");
     }
 }

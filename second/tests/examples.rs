@@ -6,6 +6,7 @@ use std::path::{Path, PathBuf};
 use std::process::Command;
 
 use second::compare::ledgers::LEDGER;
+use second::compare::listing::LISTING;
 use second::limits::{LONGEST_STEP, LONGEST_VERDICT, NAMES, PLACES};
 
 const C: &str = "cc -O2 -Wall -Wextra -Werror -Iinclude examples/depot_week.c \
@@ -43,8 +44,8 @@ fn printed(program: &Path, trace: &Path) -> String {
 }
 
 /// The number that the header gives a name.
-fn in_header(name: &str) -> usize {
-    let header = fs::read_to_string(root().join("include/cuudhaqil.h")).expect("it is there");
+fn in_header(header: &str, name: &str) -> usize {
+    let header = fs::read_to_string(root().join("include").join(header)).expect("it is there");
     let named = format!("    {name} = ");
     let line = header.lines().find(|line| line.starts_with(&named)).expect("it has the name");
     line[named.len()..].trim_end_matches(',').parse().expect("it is a number")
@@ -52,11 +53,13 @@ fn in_header(name: &str) -> usize {
 
 #[test]
 fn the_header_s_sizes_are_those_of_the_documents() {
-    assert_eq!(in_header("CUUDHAQIL_NAMES"), NAMES);
-    assert_eq!(in_header("CUUDHAQIL_PLACES"), PLACES);
-    assert_eq!(in_header("CUUDHAQIL_LEDGER"), LEDGER);
-    assert_eq!(in_header("CUUDHAQIL_LONGEST_STEP"), LONGEST_STEP);
-    assert_eq!(in_header("CUUDHAQIL_LONGEST_VERDICT"), LONGEST_VERDICT);
+    let header = "cuudhaqil.h";
+    assert_eq!(in_header(header, "CUUDHAQIL_NAMES"), NAMES);
+    assert_eq!(in_header(header, "CUUDHAQIL_PLACES"), PLACES);
+    assert_eq!(in_header(header, "CUUDHAQIL_LEDGER"), LEDGER);
+    assert_eq!(in_header(header, "CUUDHAQIL_LONGEST_STEP"), LONGEST_STEP);
+    assert_eq!(in_header(header, "CUUDHAQIL_LONGEST_VERDICT"), LONGEST_VERDICT);
+    assert_eq!(in_header("cuudhaqil_listing.h", "CUUDHAQIL_LISTING"), LISTING);
 }
 
 #[test]

@@ -1,9 +1,10 @@
-//! Writes the stored traces: `write_samples EXAMPLES CRATES`, two folders.
+//! Writes the stored traces and listings: `write_samples EXAMPLES CRATES`, two
+//! folders.
 
 use std::path::Path;
 use std::{env, fs, io};
 
-use second::samples::{examples, judged, File};
+use second::samples::{examples, judged, listed, File};
 
 fn write(folder: &str, files: Vec<File>) -> io::Result<()> {
     fs::create_dir_all(folder)?;
@@ -16,5 +17,6 @@ fn main() -> io::Result<()> {
         return Err(io::Error::other("usage: write_samples EXAMPLES CRATES"));
     };
     write(example_folder, examples())?;
-    write(crate_folder, judged())
+    write(crate_folder, judged())?;
+    write(crate_folder, listed())
 }
