@@ -11,7 +11,8 @@ use lib.ListN.{length, take, drop}
 use borrow.Author.Tests.{eq-eqb, ne-eqb, eqb-true, eqb-false, not-true}
 use Rattle.rules.specs.Lists.{all, any, none, has}
 use Rattle.rules.proofs.Lists.{and-left, and-right, or-false-left, or-false-right}
-use Rattle.listing.specs.Lines.{Line, lineEnd, inFront, linesOf, lineLength, joined, isOne, lastOnly, Cut}
+use Rattle.listing.specs.Lines.{Line, lineEnd, inFront, linesOf, joined, isOne, lastOnly, Cut}
+use Rattle.listing.specs.Turns.{lineLength}
 
 -- ---- how long the first line is
 

@@ -18,9 +18,9 @@ use Rattle.store_names.proofs.RoundTrip.{round-trip}
 use Rattle.listing.specs.declared.Optional.{Optional}
 use Rattle.listing.specs.declared.Optional.the-variants.{None, Some}
 use Rattle.listing.specs.declared.Listing.{Listing}
-use Rattle.listing.specs.Lines.{Line, linesOf, lineLength, below}
+use Rattle.listing.specs.Lines.{Line, linesOf, below}
 use Rattle.listing.specs.Listing.{isAbove, isBad, goodBehind, good, namesIn, objectsIn, listingOf}
-use Rattle.listing.specs.Turns.{nameBehind, withName, withBad}
+use Rattle.listing.specs.Turns.{lineLength, nameBehind, withName, withBad}
 use Rattle.listing.specs.Whole.{lastManifest, orElse, manifestIn}
 use Rattle.listing.proofs.Cutting.{lines-next, lines-torn}
 use Rattle.listing.proofs.Rising.{or-none, highest-good}

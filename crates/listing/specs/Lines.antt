@@ -3,7 +3,7 @@
 use mathlib.Core.Path.{_≡_}
 use mathlib.Core.Bool.{Bool, true, false, not, cond, _&&_, _||_}
 use mathlib.Core.List.{List, [], _∷_, _++_}
-use Prim.Native.Nat.{ℕ, suc}
+use Prim.Native.Nat.{ℕ}
 use lib.Dec.{eqb, ltb}
 use Rattle.rules.specs.Lists.{all, none, has}
 
@@ -25,11 +25,6 @@ inFront b (l ∷ ls) = record { bytes = b ∷ l .bytes; ended = l .ended } ∷ l
 unfoldable pub linesOf : List ℕ → List Line
 linesOf [] = []
 linesOf (b ∷ bs) = cond (eqb b lineEnd) (record { bytes = []; ended = true } ∷ linesOf bs) (inFront b (linesOf bs))
-
--- how many bytes the line at the front has
-unfoldable pub lineLength : List ℕ → ℕ
-lineLength [] = 0
-lineLength (b ∷ bs) = cond (eqb b lineEnd) 0 (suc (lineLength bs))
 
 -- "byte order": by the first byte that differs; a line that goes on is above the one that ends there
 unfoldable pub below : List ℕ → List ℕ → Bool

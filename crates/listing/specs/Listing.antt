@@ -26,7 +26,7 @@ isRead NotName = false
 abbrev pub isName : List ℕ → Bool
 isName bytes = isRead (decode bytes)
 
--- above its predecessor, the first of the lines before it; the first line has none
+-- above its predecessor, the first of the earlier lines, of which the nearest stands first; the first line has none
 abbrev pub isAbove : List Line → Line → Bool
 isAbove [] l = true
 isAbove (p ∷ earlier) l = below (p .bytes) (l .bytes)
@@ -35,7 +35,7 @@ isAbove (p ∷ earlier) l = below (p .bytes) (l .bytes)
 abbrev pub isBad : List Line → Line → Bool
 isBad earlier l = not (isName (l .bytes)) || (not (l .ended) || not (isAbove earlier l))
 
--- the lines before the first bad one, behind earlier lines, the last of them first
+-- the lines before the first bad one, where these are the earlier ones
 unfoldable pub goodBehind : List Line → List Line → List Line
 goodBehind earlier [] = []
 goodBehind earlier (l ∷ ls) = cond (isBad earlier l) [] (l ∷ goodBehind (l ∷ earlier) ls)

@@ -1,8 +1,9 @@
 -- What the reader does with one line, in the terms that its helpers promise.
 -- Assumes nothing.
 use mathlib.Core.Bool.{cond}
-use mathlib.Core.List.{List}
-use Prim.Native.Nat.{ℕ, _+_}
+use mathlib.Core.List.{List, [], _∷_}
+use Prim.Native.Nat.{ℕ, suc, _+_}
+use lib.Dec.{eqb}
 use Rattle.store_names.specs.declared.Name.{Name}
 use Rattle.store_names.specs.declared.Name.the-variants.{Manifest, Object}
 use Rattle.store_names.specs.declared.NameRead.{NameRead}
@@ -10,7 +11,12 @@ use Rattle.store_names.specs.declared.NameRead.the-variants.{Malformed}
 use Rattle.store_names.specs.Names.{decode}
 use Rattle.listing.specs.declared.Optional.the-variants.{Some}
 use Rattle.listing.specs.declared.Listing.{Listing}
-use Rattle.listing.specs.Lines.{below}
+use Rattle.listing.specs.Lines.{lineEnd, below}
+
+-- how many bytes the line at the front has: those before the first 0A, or all
+unfoldable pub lineLength : List ℕ → ℕ
+lineLength [] = 0
+lineLength (b ∷ bs) = cond (eqb b lineEnd) 0 (suc (lineLength bs))
 
 -- the name that a line is, where it stands above the line before
 unfoldable pub nameBehind : List ℕ → List ℕ → NameRead

@@ -3,9 +3,9 @@
 ghost use mathlib.Core.Path.{_≡_};
 ghost use Prim.Native.Nat.{_+_, _<_};
 ghost use Rattle.store_names.specs.Decimal.{largest};
-ghost use Rattle.listing.specs.Lines.{below, lineLength};
+ghost use Rattle.listing.specs.Lines.{below};
 ghost use Rattle.listing.specs.Listing.{listingOf};
-ghost use Rattle.listing.specs.Turns.{nameBehind, withName, withBad};
+ghost use Rattle.listing.specs.Turns.{lineLength, nameBehind, withName, withBad};
 use store_names::Name;
 use store_names::NameRead;
 

@@ -6,8 +6,8 @@ use native.Mathlib.Numerals.{add-one}
 use native.Mathlib.Omega.{arith}
 use lib.ListN.{length, drop, drop-of-length-le}
 use lib.Seq.{drop-cons}
-use Rattle.listing.specs.Lines.{lineLength}
-use Rattle.listing.proofs.Cutting.{line-length-end, line-length-more}
+use Rattle.listing.specs.Turns.{lineLength}
+use Rattle.listing.proofs.Cutting.{line-length-none, line-length-end, line-length-more}
 use Rattle.listing.proofs.line_length.Statement.{statement}
 use Rattle.listing.proofs.line_length.Tie as tie
 
@@ -44,11 +44,10 @@ loop-again c =
     (omega arith, omega (arith, more, l .inv .1))
 
 returns-2 : tie.Need-returns-2 Inv-loop μ-loop
-unfolding lineLength
 returns-2 c =
     let l = c .before .loop in
     let bytes = c .before .before .args .bytes .now in
-    omega (arith, rw (drop-of-length-le bytes {i = l .i} (c .loop-test .left)) at (l .inv .1))
+    omega (arith, rw (drop-of-length-le bytes {i = l .i} (c .loop-test .left), line-length-none) at (l .inv .1))
 
 pub line-length-spec : {M : Type 1} → statement M
 line-length-spec =

@@ -8,9 +8,9 @@ use borrow.Author.Needs.{needs}
 use lib.ListN.{length, take, drop, length-drop, drop-of-length-le}
 use lib.Seq.{drop-drop, take-all}
 use Rattle.listing.specs.declared.Listing.{Listing}
-use Rattle.listing.specs.Lines.{linesOf, lineLength}
+use Rattle.listing.specs.Lines.{linesOf}
 use Rattle.listing.specs.Listing.{listingOf}
-use Rattle.listing.specs.Turns.{nameBehind}
+use Rattle.listing.specs.Turns.{lineLength, nameBehind}
 use Rattle.listing.proofs.Cutting.{line-length-le, lines-none}
 use Rattle.listing.proofs.Telling.{tell, tell-torn, tell-bad, tell-next, tell-all, with-few}
 use Rattle.listing.proofs.read_listing.Statement.{statement}
