@@ -1,3 +1,4 @@
+# shellcheck shell=bash
 # What `judge` and `list_bucket` share: proves and builds the program on first use, and again when its sources have
 # changed, then runs it on a file or on standard input. Sourced, with $program its name, $work the crate that does its work
 # and $usage what --help says.
@@ -30,7 +31,7 @@ is_built() {
 # Without its stamp the program is built even where nothing but its file is missing. Standard input is the program's: the
 # build must not read it.
 build() {
-    echo "$program: proving and building the program; the first time takes some minutes" >&2
+    echo "$program: proving and building the program; the first time takes a while" >&2
     mkdir -p "$root/target"
     rm -f "$root/target/stamp/$program"
     if ! (cd "$root" && rt check "$program") < /dev/null > "$log" 2>&1; then

@@ -2,7 +2,7 @@
 
 Puts the keys on standard input, one a line, in that order into a bucket of a store (moto's) that
 runs in this process and is reached on this machine alone, and prints the bucket's keys, one a
-line, as the ordinary client (boto3) lists them. Ends with 77 where boto3 or moto is missing.
+line, as the ordinary client (boto3) lists them; on standard error how many pages that took. Ends with 77 where boto3 or moto is missing.
 """
 
 import logging
@@ -31,9 +31,9 @@ def keep_to_this_machine():
 
 
 def listed(client, bucket):
-    """The bucket's keys, from as many pages as it takes."""
+    """The bucket's pages, each a list of keys."""
     pages = client.get_paginator("list_objects_v2").paginate(Bucket=bucket)
-    return [entry["Key"] for page in pages for entry in page.get("Contents", [])]
+    return [[entry["Key"] for entry in page.get("Contents", [])] for page in pages]
 
 
 def main():
@@ -55,8 +55,11 @@ def main():
     client.create_bucket(Bucket="depot")
     for key in keys:
         client.put_object(Bucket="depot", Key=key, Body=b"")
-    for key in listed(client, "depot"):
-        print(key)
+    pages = listed(client, "depot")
+    for page in pages:
+        for key in page:
+            print(key)
+    print(f"{len(pages)} pages", file=sys.stderr)
     server.stop()
     return 0
 

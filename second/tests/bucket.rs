@@ -24,7 +24,7 @@ fn put(keys: &mut Keys, name: Name) {
     keys.insert(String::from_utf8(key).expect("names are text"), Some(name));
 }
 
-/// Some 1,200 names with numbers of any magnitude.
+/// 1,250 names with numbers of any magnitude.
 fn many(random: &mut Random) -> Keys {
     let (manifests, objects) = (350, 900);
     let mut keys = Keys::new();
@@ -71,9 +71,13 @@ fn run(command: &mut Command, input: &[u8]) -> io::Result<Output> {
     command.stdin(Stdio::piped()).stdout(Stdio::piped()).stderr(Stdio::piped());
     let mut child = command.spawn()?;
     let written = child.stdin.take().expect("it is piped").write_all(input);
-    // It has ended before any error is told, so that none is left behind.
+    // It has ended before any error is told, so that none is left behind. One
+    // that ended early tells why by itself.
     let done = child.wait_with_output()?;
-    written.map(|()| done)
+    match written {
+        Err(error) if error.kind() != io::ErrorKind::BrokenPipe => Err(error),
+        _ => Ok(done),
+    }
 }
 
 /// Tells that nothing was compared, past the test harness, which would keep the
@@ -101,6 +105,8 @@ fn listed(random: &mut Random, keys: &Keys) -> Option<Vec<u8>> {
     }
     let told = String::from_utf8_lossy(&done.stderr);
     assert!(done.status.success(), "bucket.py: {}: {told}", done.status);
+    let pages = format!("{} pages", keys.len().div_ceil(PAGE));
+    assert!(told.lines().any(|line| line == pages), "{pages}: {told}");
     Some(done.stdout)
 }
 

@@ -13,6 +13,8 @@ const C: &str = "cc -O2 -Wall -Wextra -Werror -Iinclude examples/depot_week.c \
                  -Ltarget/staticlib -lexports";
 const SALE: &str = "cc -O2 -Wall -Wextra -Werror -Iinclude examples/sale.c -Ltarget/staticlib \
                     -lexports -ldesk_exports";
+const BUCKET: &str = "cc -O2 -Wall -Wextra -Werror -Iinclude examples/bucket.c -Ltarget/staticlib \
+                      -lexports -llisting_exports";
 const RUST: &str = "rustc --edition 2021 -O examples/depot_week.rs -L target/staticlib \
                     -l static=exports";
 
@@ -89,4 +91,10 @@ fn the_sale_prints_what_is_stored_and_the_readme_shows() {
     let readme = fs::read_to_string(root().join("README.md")).expect("it is there");
     let shown: String = stored.lines().map(|line| format!("    {line}\n")).collect();
     assert!(readme.contains(&shown), "README.md shows another sale");
+}
+
+#[test]
+fn the_bucket_prints_what_is_stored() {
+    let stored = fs::read_to_string(root().join("examples/bucket.out")).expect("it is stored");
+    assert_eq!(printed_by(&mut Command::new(compiled(BUCKET, "bucket"))), stored);
 }

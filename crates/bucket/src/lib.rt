@@ -4,24 +4,18 @@ use libc::STDIN_FILENO;
 use listing::Listing;
 use listing::Optional;
 use terminal::say;
-use terminal::say_number;
+use terminal::say_line;
 
 fn say_manifest(manifest: Optional) {
     match manifest {
-        Optional::Some(n) => {
-            say(b"manifest ");
-            say_number(n);
-        }
+        Optional::Some(n) => say_line(b"manifest ", n),
         Optional::None => say(b"no manifest\n"),
     }
 }
 
 fn say_bad(bad: Optional) {
     match bad {
-        Optional::Some(n) => {
-            say(b"bad ");
-            say_number(n);
-        }
+        Optional::Some(n) => say_line(b"bad ", n),
         Optional::None => say(b"whole\n"),
     }
 }
@@ -30,8 +24,7 @@ fn say_listing(said: Listing) {
     let manifest = said.manifest;
     let bad = said.bad;
     say_manifest(manifest);
-    say(b"objects ");
-    say_number(said.objects);
+    say_line(b"objects ", said.objects);
     say_bad(bad);
 }
 

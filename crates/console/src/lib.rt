@@ -9,13 +9,13 @@ use libc::STDIN_FILENO;
 use records::LONGEST_VERDICT;
 use replay::Front;
 use terminal::say;
-use terminal::say_number;
+use terminal::say_line;
 
 // A verdict's code stands behind the head of the record and that of its first field, a tag and a two-byte length each.
 const CODE_AT: usize = 6;
 
 fn say_code(code: u8) {
-    say_number(code as u64);
+    say_line(b"", code as u64);
 }
 
 // The code of the verdict whose record these bytes start with.
@@ -50,8 +50,7 @@ fn say_codes(trace: &[u8]) -> usize
 
 fn judge_trace(trace: &[u8]) {
     let unread = say_codes(trace);
-    say(b"rest ");
-    say_number(unread as u64);
+    say_line(b"rest ", unread as u64);
 }
 
 // Judges standard input, at most 65,536 bytes; of a longer trace nothing is judged.

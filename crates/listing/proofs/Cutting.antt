@@ -11,7 +11,7 @@ use lib.ListN.{length, take, drop}
 use borrow.Author.Tests.{eq-eqb, ne-eqb, eqb-true, eqb-false, not-true}
 use Rattle.rules.specs.Lists.{all, any, none, has}
 use Rattle.rules.proofs.Lists.{and-left, and-right, or-false-left, or-false-right}
-use Rattle.listing.specs.Lines.{Line, lineEnd, inFront, linesOf, joined, isOne, lastOnly, Cut}
+use Rattle.listing.specs.Lines.{Line, lineEnd, inFront, linesOf, joined, isOneLine, lastOnly, Cut}
 use Rattle.listing.specs.Turns.{lineLength}
 
 -- ---- how long the first line is
@@ -84,7 +84,7 @@ joined-front b (l ∷ ls) = refl
 other-way : (a b : ℕ) → eqb a b ≡ false → eqb b a ≡ false
 other-way a b other = ne-eqb b a (λ e. eqb-false a b other (sym e))
 
-ones-front : (b : ℕ) (ls : List Line) → eqb b lineEnd ≡ false → all isOne ls ≡ true → all isOne (inFront b ls) ≡ true
+ones-front : (b : ℕ) (ls : List Line) → eqb b lineEnd ≡ false → all isOneLine ls ≡ true → all isOneLine (inFront b ls) ≡ true
 unfolding all has any
 ones-front b [] other h = rw (other-way b lineEnd other)
 ones-front b (l ∷ ls) other h = rw (other-way b lineEnd other) h
@@ -108,12 +108,12 @@ lines-join (b ∷ bs) = step (eqb b lineEnd) refl (lines-join bs)
     step true is h = ap₂ _∷_ (sym (eqb-true b lineEnd is)) h
     step false is h = joined-front b (linesOf bs) ∙ ap (λ (l : List ℕ). b ∷ l) h
 
-lines-ones : (bytes : List ℕ) → all isOne (linesOf bytes) ≡ true
+lines-ones : (bytes : List ℕ) → all isOneLine (linesOf bytes) ≡ true
 unfolding linesOf all has any
 lines-ones [] = refl
 lines-ones (b ∷ bs) = step (eqb b lineEnd) refl (lines-ones bs)
   where
-    step : (end : Bool) → eqb b lineEnd ≡ end → all isOne (linesOf bs) ≡ true → all isOne (cond end (record { bytes = []; ended = true } ∷ linesOf bs) (inFront b (linesOf bs))) ≡ true
+    step : (end : Bool) → eqb b lineEnd ≡ end → all isOneLine (linesOf bs) ≡ true → all isOneLine (cond end (record { bytes = []; ended = true } ∷ linesOf bs) (inFront b (linesOf bs))) ≡ true
     step true is h = h
     step false is h = ones-front b (linesOf bs) is h
 
@@ -165,13 +165,13 @@ only-front bytes false ls one last rest =
     let alone = lines-alone bytes (and-left (not (none bytes)) (none ls) last) one in
     rw (is-nil ls (and-right (not (none bytes)) (none ls) last)) (simp append-nil alone)
 
-lines-only : (ls : List Line) → all isOne ls ≡ true → lastOnly ls ≡ true → linesOf (joined ls) ≡ ls
+lines-only : (ls : List Line) → all isOneLine ls ≡ true → lastOnly ls ≡ true → linesOf (joined ls) ≡ ls
 unfolding linesOf joined all lastOnly
 lines-only [] one last = refl
 lines-only (l ∷ ls) one last =
     let placed = l .ended || (not (none (l .bytes)) && none ls) in
-    only-front (l .bytes) (l .ended) ls (not-true (has lineEnd (l .bytes)) (and-left (isOne l) (all isOne ls) one)) (and-left placed (lastOnly ls) last)
-    (lines-only ls (and-right (isOne l) (all isOne ls) one) (and-right placed (lastOnly ls) last))
+    only-front (l .bytes) (l .ended) ls (not-true (has lineEnd (l .bytes)) (and-left (isOneLine l) (all isOneLine ls) one)) (and-left placed (lastOnly ls) last)
+    (lines-only ls (and-right (isOneLine l) (all isOneLine ls) one) (and-right placed (lastOnly ls) last))
 
 pub cut : Cut
 cut = record { joins = lines-join; ones = lines-ones; lasts = lines-lasts; only = lines-only }

@@ -19,7 +19,7 @@ use Rattle.store_names.proofs.RoundTrip.{round-trip}
 use Rattle.listing.specs.declared.Optional.{Optional}
 use Rattle.listing.specs.declared.Optional.the-variants.{None, Some}
 use Rattle.listing.specs.Lines.{Line, below}
-use Rattle.listing.specs.Listing.{isRead, isName, isAbove, isBad, goodBehind, good, withRead, namesIn, atLeast, highest}
+use Rattle.listing.specs.Listing.{isRead, isName, isAbove, isBad, goodBehind, good, withRead, namesIn, higherOf, highest}
 use Rattle.listing.specs.Whole.{isBefore, rising, orElse, lastManifest}
 use Rattle.listing.proofs.Order.{order}
 
@@ -36,7 +36,7 @@ names-taken (l ∷ ls) = by (decode (l .bytes)) refl (names-taken ls)
     by NotName e h = h
 
 -- lines that are names have their names' order
-pub read-order : (x y : List ℕ) (v w : Name) → decode x ≡ IsName v → decode y ≡ IsName w → below x y ≡ isBefore v w
+read-order : (x y : List ℕ) (v w : Name) → decode x ≡ IsName v → decode y ≡ IsName w → below x y ≡ isBefore v w
 read-order x y v w d e =
     let r = round-trip .writesRead x v d in
     let s = round-trip .writesRead y w e in
@@ -123,7 +123,7 @@ behind-manifest n (Manifest m ∷ vs) e =
     from-else n m (lastManifest vs) (ltb-true n m (and-left (ltb n m) (chain isBefore (Manifest m) vs) e)) (behind-manifest m vs (and-right (ltb n m) (chain isBefore (Manifest m) vs) e))
 behind-manifest n (Object m ∷ vs) e = rw (behind-object m vs e) tt
 
-at-least : (n : ℕ) (o : Optional) → IsFrom n o → atLeast n o ≡ orElse o (Some n)
+at-least : (n : ℕ) (o : Optional) → IsFrom n o → higherOf n o ≡ orElse o (Some n)
 at-least n None f = refl
 at-least n (Some m) f = ap Some (omega arith)
 

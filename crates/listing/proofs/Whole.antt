@@ -19,7 +19,7 @@ use Rattle.store_names.specs.Decimal.{digits}
 use Rattle.store_names.specs.Names.{nameDigits, manifestSuffix, objectSuffix, encode, isTaken, sameBytes}
 use Rattle.store_names.proofs.RoundTrip.{round-trip}
 use Rattle.listing.specs.declared.Optional.the-variants.{None, Some}
-use Rattle.listing.specs.Lines.{Line, lineEnd, linesOf, joined, isOne, lastOnly}
+use Rattle.listing.specs.Lines.{Line, lineEnd, linesOf, joined, isOneLine, lastOnly}
 use Rattle.listing.specs.Listing.{isBad, goodBehind, good, firstBad, namesIn, objectsIn, listingOf}
 use Rattle.listing.specs.Whole.{Whole, isBefore, rising, textOf, lastManifest, isInWal}
 use Rattle.listing.proofs.Order.{order}
@@ -46,15 +46,15 @@ unfolding digits any
 digits-one zero n = refl
 digits-one (suc k) n = rw (any-append (eqb lineEnd) (digits k (n / 10)) ((48 + n % 10) ∷ []), digits-one k (n / 10), ne-eqb lineEnd (48 + n % 10) (omega arith))
 
-name-one : (v : Name) → isOne (lineOf v) ≡ true
+name-one : (v : Name) → isOneLine (lineOf v) ≡ true
 unfolding has any
 name-one (Manifest n) = rw (any-append (eqb lineEnd) (digits nameDigits n) manifestSuffix, digits-one nameDigits n)
 name-one (Object n) = rw (any-append (eqb lineEnd) (digits nameDigits n) objectSuffix, digits-one nameDigits n)
 
-names-ones : (vs : List Name) → all isOne (linesFor vs) ≡ true
+names-ones : (vs : List Name) → all isOneLine (linesFor vs) ≡ true
 unfolding all
 names-ones [] = refl
-names-ones (v ∷ vs) = and-both (isOne (lineOf v)) (all isOne (linesFor vs)) (name-one v) (names-ones vs)
+names-ones (v ∷ vs) = and-both (isOneLine (lineOf v)) (all isOneLine (linesFor vs)) (name-one v) (names-ones vs)
 
 names-ended : (vs : List Name) → lastOnly (linesFor vs) ≡ true
 unfolding lastOnly

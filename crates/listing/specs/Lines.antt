@@ -43,8 +43,8 @@ joined [] = []
 joined (l ∷ ls) = withEnd l ++ joined ls
 
 -- no line has 0A inside
-abbrev pub isOne : Line → Bool
-isOne l = not (has lineEnd (l .bytes))
+abbrev pub isOneLine : Line → Bool
+isOneLine l = not (has lineEnd (l .bytes))
 
 -- a line that lacks 0A is the last, and it isn't empty
 unfoldable pub lastOnly : List Line → Bool
@@ -56,7 +56,7 @@ pub record Cut : Type 0 where
   -- the lines are the bytes
   pub joins : (bytes : List ℕ) → joined (linesOf bytes) ≡ bytes
   -- each is one line, and only the last may lack 0A
-  pub ones : (bytes : List ℕ) → all isOne (linesOf bytes) ≡ true
+  pub ones : (bytes : List ℕ) → all isOneLine (linesOf bytes) ≡ true
   pub lasts : (bytes : List ℕ) → lastOnly (linesOf bytes) ≡ true
   -- lines of which both can be said are those of their bytes
-  pub only : (ls : List Line) → all isOne ls ≡ true → lastOnly ls ≡ true → linesOf (joined ls) ≡ ls
+  pub only : (ls : List Line) → all isOneLine ls ≡ true → lastOnly ls ≡ true → linesOf (joined ls) ≡ ls

@@ -26,7 +26,7 @@ isRead NotName = false
 abbrev pub isName : List ℕ → Bool
 isName bytes = isRead (decode bytes)
 
--- above its predecessor, the first of the earlier lines, of which the nearest stands first; the first line has none
+-- `earlier` has the lines before it, the nearest first: that one is its predecessor, and the first line has none
 abbrev pub isAbove : List Line → Line → Bool
 isAbove [] l = true
 isAbove (p ∷ earlier) l = below (p .bytes) (l .bytes)
@@ -35,7 +35,7 @@ isAbove (p ∷ earlier) l = below (p .bytes) (l .bytes)
 abbrev pub isBad : List Line → Line → Bool
 isBad earlier l = not (isName (l .bytes)) || (not (l .ended) || not (isAbove earlier l))
 
--- the lines before the first bad one, where these are the earlier ones
+-- the lines before the first bad one, behind the lines `earlier`
 unfoldable pub goodBehind : List Line → List Line → List Line
 goodBehind earlier [] = []
 goodBehind earlier (l ∷ ls) = cond (isBad earlier l) [] (l ∷ goodBehind (l ∷ earlier) ls)
@@ -58,14 +58,15 @@ unfoldable pub namesIn : List Line → List Name
 namesIn [] = []
 namesIn (l ∷ ls) = withRead (decode (l .bytes)) (namesIn ls)
 
-abbrev pub atLeast : ℕ → Optional → Optional
-atLeast n None = Some n
-atLeast n (Some m) = Some (max n m)
+-- the higher of a number and one that may be none
+abbrev pub higherOf : ℕ → Optional → Optional
+higherOf n None = Some n
+higherOf n (Some m) = Some (max n m)
 
 -- the highest manifest number, or none
 unfoldable pub highest : List Name → Optional
 highest [] = None
-highest (Manifest n ∷ vs) = atLeast n (highest vs)
+highest (Manifest n ∷ vs) = higherOf n (highest vs)
 highest (Object n ∷ vs) = highest vs
 
 -- the number of objects

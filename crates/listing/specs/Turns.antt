@@ -1,4 +1,4 @@
--- What the reader does with one line, in the terms that its helpers promise.
+-- What the reader does with one line, as its private helpers promise it; what it promises itself is `listingOf`.
 -- Assumes nothing.
 use mathlib.Core.Bool.{cond}
 use mathlib.Core.List.{List, [], _∷_}

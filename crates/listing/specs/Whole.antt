@@ -33,15 +33,17 @@ unfoldable pub textOf : List Name → List ℕ
 textOf [] = []
 textOf (v ∷ vs) = encode v ++ lineEnd ∷ textOf vs
 
--- the last manifest's number, or none
+-- the first, or the second where the first is none
 abbrev pub orElse : Optional → Optional → Optional
 orElse None o = o
 orElse (Some n) o = Some n
 
+-- a manifest's number
 abbrev pub manifestIn : Name → Optional
 manifestIn (Manifest n) = Some n
 manifestIn (Object n) = None
 
+-- the last manifest's number, or none
 unfoldable pub lastManifest : List Name → Optional
 lastManifest [] = None
 lastManifest (v ∷ vs) = orElse (lastManifest vs) (manifestIn v)

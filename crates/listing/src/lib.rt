@@ -1,7 +1,7 @@
 // A listing of the store's bucket (document 02, request 5): names with their folders, a line each. What it says of the
 // manifests and objects, up to the first line that is bad.
 ghost use mathlib.Core.Path.{_≡_};
-ghost use Prim.Native.Nat.{_+_, _<_};
+ghost use Prim.Native.Nat.{_<_};
 ghost use Rattle.store_names.specs.Decimal.{largest};
 ghost use Rattle.listing.specs.Lines.{below};
 ghost use Rattle.listing.specs.Listing.{listingOf};

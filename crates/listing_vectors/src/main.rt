@@ -1,8 +1,8 @@
 // Vectors for listings (document 02, request 5): each line says which listing was read, and what came of it.
-use libc::STDOUT_FILENO;
 use listing::Listing;
 use listing::Optional;
 use terminal::say;
+use terminal::say_number;
 
 // The number, or that there is none.
 fn say_optional(o: Optional) {
@@ -10,10 +10,6 @@ fn say_optional(o: Optional) {
         Optional::Some(n) => say_number(n),
         Optional::None => say(b"none"),
     }
-}
-
-fn say_number(n: u64) {
-    io::print_decimal(STDOUT_FILENO, n);
 }
 
 fn say_listing(said: Listing) {

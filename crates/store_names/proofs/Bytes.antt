@@ -7,7 +7,7 @@ use Prim.Native.Nat.{ℕ, suc, _+_, _-_, _≤_, _<_}
 use native.Mathlib.Numerals.{add-one}
 use native.Mathlib.Omega.{arith}
 use lib.Dec.{eqb}
-use lib.ListN.{length, set, take, drop, length-append}
+use lib.ListN.{length, set, take, drop, length-append, length-drop}
 use lib.Seq.{set-split, take-at, drop-at, drop-drop, length-take-le}
 use borrow.Author.Tests.{le-ltb, lt-ltb, eq-eqb, eqb-true}
 use Rattle.store_names.specs.declared.NameWrite.the-variants.{Written, Full}
@@ -42,6 +42,12 @@ drop-set l i v h = rw (set-split l i v h, add-one) (drop-at (take i l) (v ∷ dr
 pub first-full : (bytes buffer : List ℕ) → length buffer < length bytes → putFirst bytes buffer ≡ record { answer = Full; buffer = buffer }
 unfolding putFirst
 first-full bytes buffer h = rw (lt-ltb (length buffer) (length bytes) h)
+
+-- what is lent behind a first part, for k bytes
+pub part-length : (x buffer : List ℕ) (k : ℕ) → length x + k ≤ length buffer → length (take (length x + k - length x) (drop (length x) (x ++ drop (length x) buffer))) ≡ k
+part-length x buffer k room =
+    let size : length x + k - length x ≡ k = omega arith in
+    rw (size, drop-at x (drop (length x) buffer) (length x) refl) (length-take-le k (drop (length x) buffer) (omega (arith, length-drop (length x) buffer)))
 
 -- a part more, from a, where the parts so far end, to b: it goes over what stood there, and the bytes beyond it stay
 part-more : (x y buffer : List ℕ) (a b : ℕ) → length x ≡ a → a + length y ≡ b

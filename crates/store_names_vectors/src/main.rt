@@ -1,17 +1,10 @@
 // Vectors for store names: each line says what was read or written, and what came of it.
 ghost use Prim.Native.Nat.{_≤_};
-use libc::STDOUT_FILENO;
 use store_names::Name;
 use store_names::NameRead;
 use store_names::NameWrite;
-
-fn say(text: &[u8]) {
-    io::write_all(STDOUT_FILENO, text);
-}
-
-fn say_number(n: u64) {
-    io::print_decimal(STDOUT_FILENO, n);
-}
+use terminal::say;
+use terminal::say_number;
 
 fn say_name(v: Name) {
     match v {

@@ -6,9 +6,14 @@ pub fn say(text: &[u8]) {
     io::write_all(STDOUT_FILENO, text);
 }
 
-// A number, and the end of its line.
 pub fn say_number(n: u64) {
     io::print_decimal(STDOUT_FILENO, n);
+}
+
+// A line of a text and a number.
+pub fn say_line(text: &[u8], n: u64) {
+    say(text);
+    say_number(n);
     say(b"\n");
 }
 

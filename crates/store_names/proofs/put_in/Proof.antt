@@ -1,15 +1,15 @@
 -- `store_names::put_in` meets its contract: the folder stands first, then the digits, the suffix, and what stood there.
 -- Assumes nothing.
-use mathlib.Core.Path.{_≡_, refl, sym, ap}
+use mathlib.Core.Path.{refl, sym, ap}
 use mathlib.Core.List.{_++_}
-use Prim.Native.Nat.{ℕ, _+_, _-_}
+use Prim.Native.Nat.{ℕ, _+_}
 use native.Mathlib.Omega.{arith}
 use borrow.Author.Needs.{needs}
-use lib.ListN.{length, take, drop, length-append, length-take, length-drop}
+use lib.ListN.{length, length-append}
 use lib.Seq.{length-take-le}
 use Rattle.store_names.specs.Names.{nameDigits}
 use Rattle.store_names.specs.Decimal.{digits}
-use Rattle.store_names.proofs.Bytes.{first-full, first-parts}
+use Rattle.store_names.proofs.Bytes.{first-full, first-parts, part-length}
 use Rattle.store_names.proofs.Digits.{length-digits}
 use Rattle.store_names.proofs.put_in.Statement.{statement}
 use Rattle.store_names.proofs.put_in.Tie as tie
@@ -77,8 +77,7 @@ returns-3 : tie.Need-returns-3
 returns-3 c =
     let a = c .before .before .before .before .before .before .before .before .before .before .before .before .before .before .before .before .before .args in
     let f = length (a .folder .now) in
-    let first = a .folder .now ++ drop f (a .out .now) in
-    let room : length (take (f + nameDigits - f) (drop f first)) ≡ nameDigits = omega (arith, length-take (f + nameDigits - f) (drop f first), length-drop f first, length-append (a .folder .now) (drop f (a .out .now)), length-drop f (a .out .now)) in
+    let room = part-length (a .folder .now) (a .out .now) nameDigits (omega arith) in
     let copied = c .before .before .before .before .before .before .before .before .before .before .copy-bytes .ensures in
     let put = c .before .before .before .before .before .before .put-digits .ensures in
     rw (c .before .before .copy-bytes2 .ensures, put, copied, room) (first-parts (a .folder .now) (digits nameDigits (a .n)) (a .suffix .now) (a .out .now) f (f + nameDigits) (f + nameDigits + length (a .suffix .now)) refl (ap (λ (k : ℕ). f + k) (length-digits nameDigits (a .n))) refl (omega arith) _ refl)
