@@ -18,6 +18,7 @@ use Rattle.listing.specs.Lines.{Line, linesOf, below}
 
 -- ---- the first bad line
 
+-- a name was read
 abbrev pub isRead : NameRead → Bool
 isRead (IsName v) = true
 isRead NotName = false
@@ -49,6 +50,7 @@ firstBad ls = cond (eqb (length (good ls)) (length ls)) None (Some (length (good
 
 -- ---- what the lines before it say
 
+-- the name that was read, if one was, in front of others
 abbrev pub withRead : NameRead → List Name → List Name
 withRead (IsName v) vs = v ∷ vs
 withRead NotName vs = vs
@@ -75,6 +77,7 @@ objectsIn [] = 0
 objectsIn (Manifest n ∷ vs) = objectsIn vs
 objectsIn (Object n ∷ vs) = suc (objectsIn vs)
 
+-- what lines say
 abbrev pub said : List Line → Listing
 said ls = record { manifest = highest (namesIn (good ls)); objects = objectsIn (namesIn (good ls)); bad = firstBad ls }
 

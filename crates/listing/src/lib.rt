@@ -70,7 +70,7 @@ fn name_behind(before: &[u8], line: &[u8]) -> NameRead
     store_names::read_name(line)
 }
 
-// What lines say with a name more: its manifest is the highest, since lines rise.
+// What lines say with a name more: a manifest is then the highest, since lines rise.
 fn with_name(said: Listing, name: Name) -> Listing
     requires { ⌜ said .objects < largest ⌝ }
     ensures { λ r. ⌜ r ≡ withName said name ⌝ }

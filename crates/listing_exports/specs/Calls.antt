@@ -21,6 +21,10 @@ abbrev pub orZero : Optional → ℕ
 orZero None = 0
 orZero (Some n) = n
 
+-- how many numbers a listing has
+abbrev pub listingSize : ℕ
+listingSize = 4
+
 -- whether there is a manifest, the highest, the number of objects, the first bad line
 abbrev pub listingNumbers : Listing → List ℕ
 listingNumbers l = isSome (l .manifest) ∷ orZero (l .manifest) ∷ l .objects ∷ orZero (l .bad) ∷ []
@@ -28,6 +32,6 @@ listingNumbers l = isSome (l .manifest) ∷ orZero (l .manifest) ∷ l .objects 
 -- 3 where there is no place for the numbers; else whether a line is bad
 unfoldable pub readListing : List ℕ → List ℕ → Call
 readListing bytes numbers =
-    cond (ltb (length numbers) 4)
+    cond (ltb (length numbers) listingSize)
     (record { answer = 3; left = numbers })
     (record { answer = isSome (listingOf bytes .bad); left = over (listingNumbers (listingOf bytes)) numbers })

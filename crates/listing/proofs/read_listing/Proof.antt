@@ -47,13 +47,16 @@ module _ (c : tie.After-line-length Inv-loop μ-loop) where
   front : c .line-length .result ≡ lineLength rest
   front = c .line-length .ensures ∙ ap lineLength (take-all (length all - at .loop .start) rest (omega (arith, length-drop (at .loop .start) all)))
 
+  end-within : at .loop .start + c .line-length .result ≤ length all
+  end-within = omega (arith, front, line-length-le rest, length-drop (at .loop .start) all)
+
 -- behind that of `name_behind`: the line has its 0A, and this was read
 module _ (c : tie.After-name-behind Inv-loop μ-loop) where
   abbrev line : tie.After-line-length Inv-loop μ-loop
   line = c .before .before .before .before
 
   ended : lineLength (rest line) < length (rest line)
-  ended = omega (arith, length-drop (at line .loop .start) (all line), front line, line-length-le (rest line), c .before .before .before .if1 .left)
+  ended = omega (arith, length-drop (at line .loop .start) (all line), front line, end-within line, c .before .before .before .if1 .left)
 
   was-read : nameBehind (before line) (take (lineLength (rest line)) (rest line)) ≡ c .name-behind .result
   was-read =
@@ -61,12 +64,10 @@ module _ (c : tie.After-name-behind Inv-loop μ-loop) where
       sym (c .name-behind .ensures ∙ ap (λ (k : ℕ). nameBehind (before line) (take k (rest line))) size)
 
 part-end : tie.Need-part-name-behind-end-2 Inv-loop μ-loop
-part-end c =
-    let p = c .before .before in
-    omega (arith, front p, line-length-le (rest p), length-drop (at p .loop .start) (all p))
+part-end c = omega (arith, end-within (c .before .before))
 
 add-end : tie.Need-add-end Inv-loop μ-loop
-add-end c = omega (arith, front c, line-length-le (rest c), length-drop (at c .loop .start) (all c))
+add-end c = omega (arith, end-within c)
 
 returns : tie.Need-returns Inv-loop μ-loop
 returns c =

@@ -1,13 +1,14 @@
 -- `store_names::put_in` meets its contract: the folder stands first, then the digits, the suffix, and what stood there.
 -- Assumes nothing.
-use mathlib.Core.Path.{refl, sym, ap}
-use mathlib.Core.List.{_++_}
-use Prim.Native.Nat.{ℕ, _+_}
+use mathlib.Core.Path.{_≡_, refl, sym, ap}
+use mathlib.Core.List.{List, _++_}
+use Prim.Native.Nat.{ℕ, _+_, _<_}
 use native.Mathlib.Omega.{arith}
 use borrow.Author.Needs.{needs}
 use lib.ListN.{length, length-append}
 use lib.Seq.{length-take-le}
-use Rattle.store_names.specs.Names.{nameDigits}
+use Rattle.store_names.specs.declared.NameWrite.the-variants.{Full}
+use Rattle.store_names.specs.Names.{nameDigits, putFirst}
 use Rattle.store_names.specs.Decimal.{digits}
 use Rattle.store_names.proofs.Bytes.{first-full, first-parts, part-length}
 use Rattle.store_names.proofs.Digits.{length-digits}
@@ -17,10 +18,14 @@ use Rattle.store_names.proofs.put_in.Tie as tie
 add-before : tie.Need-add-before
 add-before c = search needs
 
+-- the room is short
+short : (folder suffix out : List ℕ) (n : ℕ) → length out < length folder + nameDigits + length suffix → putFirst (folder ++ digits nameDigits n ++ suffix) out ≡ record { answer = Full; buffer = out }
+short folder suffix out n h = first-full (folder ++ digits nameDigits n ++ suffix) out (simp (length-append, length-digits) h)
+
 returns : tie.Need-returns
 returns c =
     let a = c .before .before .before .before .args in
-    first-full (a .folder .now ++ digits nameDigits (a .n) ++ a .suffix .now) (a .out .now) (simp (length-append, length-digits) (omega arith))
+    short (a .folder .now) (a .suffix .now) (a .out .now) (a .n) (omega arith)
 
 sub-if2 : tie.Need-sub-if2
 sub-if2 c = search needs
@@ -28,7 +33,7 @@ sub-if2 c = search needs
 returns-2 : tie.Need-returns-2
 returns-2 c =
     let a = c .before .before .before .before .before .args in
-    first-full (a .folder .now ++ digits nameDigits (a .n) ++ a .suffix .now) (a .out .now) (simp (length-append, length-digits) (omega arith))
+    short (a .folder .now) (a .suffix .now) (a .out .now) (a .n) (omega arith)
 
 add-size : tie.Need-add-size
 add-size c = search needs
@@ -42,9 +47,7 @@ slice-aggregate-copy-bytes c =
     sym (length-take-le (length (a .folder .now)) (a .out .now) (omega arith))
 
 copy-bytes-requires : tie.Need-copy-bytes-requires
-copy-bytes-requires c κs =
-    let a = c .before .before .before .before .before .before .args in
-    sym (length-take-le (length (a .folder .now)) (a .out .now) (omega arith))
+copy-bytes-requires c κs = slice-aggregate-copy-bytes c
 
 sub-put-digits : tie.Need-sub-put-digits
 sub-put-digits c = search needs
