@@ -157,3 +157,6 @@ module _ (L : Limits) (test : State → Bool) where
 
   pub demand3 : Demand3 L test
   demand3 asks = demand3-from (freshIn L) atFirst (agrees-fresh L) asks
+
+  pub agrees-from : (asks : List Ask) → Agrees L (ledgerFrom L test (freshIn L) asks) (historyFrom atFirst (eventsFrom L test (freshIn L) asks))
+  agrees-from asks = run-keeps (freshIn L) atFirst asks (agrees-fresh L)

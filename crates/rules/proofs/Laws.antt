@@ -83,9 +83,3 @@ place-lowest o (x ∷ xs) = step (occupied x) (place-lowest o xs)
     step : (b : Bool) → place o xs ≡ set xs (lowestFree xs) o → cond b (x ∷ place o xs) (o ∷ xs) ≡ set (x ∷ xs) (cond b (suc (lowestFree xs)) 0) o
     step true e = ap (λ l. x ∷ l) e
     step false e = refl
-
--- The largest numbers of 64 bits
-
--- "At manifest 2^64-1 every slot gives 6"
-pub last-slot : (s : State) (slot : ℕ) → suc (s .current .number) ≡ 2 ^ 64 → slot < 2 ^ 64 → row6 s slot ≡ true
-last-slot s slot e h = le-leb slot (s .current .number) (omega arith)

@@ -1,6 +1,7 @@
 pub mod Lists
 pub mod Numbers
 pub mod Table
+pub mod LastManifest
 pub mod Agreement
 pub mod Settle
 pub mod Publish

@@ -4,7 +4,7 @@ use mathlib.Core.Path.{_≡_, refl, sym, ap, _∙_}
 use mathlib.Core.Logic.{_⊎_, inl, inr}
 use mathlib.Core.Bool.{Bool, true, false, cond}
 use mathlib.Core.List.{List, [], _∷_, map, List·Memᴰ·head, List·Memᴰ·tail, List·Memᴰ·not-nil, List·Memᴰ·cases-cons, Memᴰ·map}
-use Prim.Native.Nat.{ℕ, _<_}
+use Prim.Native.Nat.{ℕ, _≤_, _<_}
 use native.Mathlib.Omega.{arith}
 use lib.Dec.{ltb, eqb}
 use borrow.Author.Tests.{ltb-true, eqb-true, ne-eqb}
@@ -17,7 +17,7 @@ use Rattle.rules.specs.Request.{Ask, Asked, Request, Unreadable}
 use Rattle.rules.specs.State.{State}
 use Rattle.rules.specs.Step.{accepts, alone, granted, next, reply, rowsOf, verdict}
 use Rattle.rules.specs.Table.{Row, firstOf, rows}
-use Rattle.rules.specs.Verdict.{Smallest}
+use Rattle.rules.specs.Verdict.{RefusalKeeps, Smallest, VerdictSmallest}
 use Rattle.rules.proofs.Lists.{and-left, and-right, true-false}
 use Rattle.rules.proofs.Numbers.{rising-above}
 
@@ -136,6 +136,18 @@ smallest rs e = record {
   refused = λ r i. (given 0 rs e r i, λ w. gives 0 rs e r i (w .0) (w .1));
 }
 
+-- where a row applies the number is not above that row's, and not 0
+pub at-most : (floor : ℕ) (rs : List Row) → risingAbove floor (rowNumbers rs) ≡ true → (r : Row) → r ∈ rs → r .applies ≡ true → (0 < firstOf rs) × (firstOf rs ≤ r .number)
+unfolding firstOf
+at-most floor [] e r i a = absurd (List·Memᴰ·not-nil i)
+at-most floor (q ∷ qs) e r i a = step (q .applies) refl (List·Memᴰ·cases-cons i) (λ k. at-most (q .number) qs (rising-rest floor q qs e) r k a)
+  where
+    step : (b : Bool) → q .applies ≡ b → (r ≡ q) ⊎ (r ∈ qs) → (r ∈ qs → (0 < firstOf qs) × (firstOf qs ≤ r .number)) → (0 < cond b (q .number) (firstOf qs)) × (cond b (q .number) (firstOf qs) ≤ r .number)
+    step true p (inl w) f = let h = rising-first floor q qs e in let same = ap (λ (r : Row). r .number) w in (omega arith, omega arith)
+    step true p (inr k) f = let h = rising-first floor q qs e in let above = rising-later floor q qs e r k in (omega arith, omega arith)
+    step false p (inl w) f = true-false (q .applies) (sym (ap (λ (r : Row). r .applies) w) ∙ a) p
+    step false p (inr k) f = f k
+
 -- each kind's rows are in rising order
 pub rows-rising : (L : Limits) (s : State) (t : ℕ) (k : Kind) (l : List ℕ) → risingAbove 1 (rowNumbers (rows L s t k l)) ≡ true
 unfolding rows risingAbove
@@ -157,9 +169,14 @@ module _ (L : Limits) (test : State → Bool) where
   rising s Unreadable = refl
 
   -- the verdict is the smallest number that applies
-  pub verdict-smallest : (s : State) (q : Request) → Smallest (rowsOf L test s q) (verdict L test s q)
+  pub verdict-smallest : VerdictSmallest L test
   unfolding verdict
   verdict-smallest s q = smallest (rowsOf L test s q) (rising s q)
+
+  -- where a row applies the verdict is not above it, and it is a refusal
+  pub verdict-at-most : (s : State) (q : Request) (r : Row) → r ∈ rowsOf L test s q → r .applies ≡ true → (0 < verdict L test s q) × (verdict L test s q ≤ r .number)
+  unfolding verdict
+  verdict-at-most s q r i a = at-most 0 (rowsOf L test s q) (rising s q) r i a
 
   pub verdict-zero : (s : State) (a : Ask) → accepts L test s a ≡ true → verdict L test s (a .request) ≡ 0
   unfolding accepts
@@ -170,10 +187,10 @@ module _ (L : Limits) (test : State → Bool) where
   unfolding verdict
   cleared s a e = clear-of 0 (rowsOf L test s (a .request)) (rising s (a .request)) (verdict-zero s a e)
 
-  -- a refusal changes nothing
-  pub refusal-changes-nothing : (s : State) (a : Ask) → (verdict L test s (a .request) ≡ 0 → ⊥) → next L test s a ≡ s
-  unfolding next accepts
-  refusal-changes-nothing s a f = rw (ne-eqb (verdict L test s (a .request)) 0 f)
+  -- a refusal changes nothing, and neither does a verdict that does not fit
+  pub refusal-keeps : RefusalKeeps L test
+  unfolding next
+  refusal-keeps s a e = rw e
 
   -- an accepted step's reply
   pub granted-reply : (s : State) (a : Ask) → accepts L test s a ≡ true → reply L test s (a .request) ≡ granted (a .request) s

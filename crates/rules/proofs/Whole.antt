@@ -11,13 +11,14 @@ use Rattle.rules.specs.Sound.{sound}
 use Rattle.rules.specs.State.{fresh}
 use Rattle.rules.proofs.Bounds.{collect-accepted}
 use Rattle.rules.proofs.Counted.{history-count}
-use Rattle.rules.proofs.Demand3.{demand3}
+use Rattle.rules.proofs.Demand3.{agrees-from, demand3}
 use Rattle.rules.proofs.Numbers.{has-in, in-has, rising-ext}
 use Rattle.rules.proofs.Soundness.{ledger-from-sound, sound-fresh}
 
 pub whole : (asks : List Ask) → Whole asks
 whole asks = record {
   exact = demand3 limits (sound limits) asks;
+  agrees = agrees-from limits (sound limits) asks;
   isSound = ledger-from-sound limits (sound limits) fresh asks (sound-fresh limits);
   counted = let e = demand3 limits (sound limits) asks .number in let c = history-count atFirst (eventsFrom limits (sound limits) fresh asks) in omega arith;
   collectable = λ t room le h. collect-accepted limits (ledgerOf asks) t room (ledger-from-sound limits (sound limits) fresh asks (sound-fresh limits)) le h;

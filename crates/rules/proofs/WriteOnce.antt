@@ -24,7 +24,8 @@ use Rattle.rules.specs.State.{State, freshIn}
 use Rattle.rules.specs.Step.{Reply, accepts, act, answers, effect, granted, next, reply, verdict}
 use Rattle.rules.specs.Table.{_if_, row10, row9, rows}
 use Rattle.rules.specs.Words.{stored}
-use Rattle.rules.specs.WriteOnce.{Past, WriteOnce, collectedFrom, goneBy, listedBy, putOf, puts}
+use Rattle.rules.specs.Verdict.{Past}
+use Rattle.rules.specs.WriteOnce.{LastCollected, WriteOnce, collectedFrom, goneBy, listedBy, putOf, puts}
 use Rattle.rules.proofs.Agreement.{stored-same}
 use Rattle.rules.proofs.Demand3.{agrees-fresh, dead-time, exact, request-keeps, step-keeps}
 use Rattle.rules.proofs.Lists.{and-both, any-in, decide, in-any, in-keep, or-left, true-false}
@@ -266,10 +267,8 @@ module _ (L : Limits) (test : State → Bool) where
       verdict-smallest L test s (Asked t (PUT r e n c) l) .refused (10 if row10 s n)
       (List·Memᴰ·tail (List·Memᴰ·tail (List·Memᴰ·tail (List·Memᴰ·tail (List·Memᴰ·tail (List·Memᴰ·head refl)))))) .1 (applies, past)
 
-  -- "once it is collected, every PUT past 9 gives 10", on any ledger
-  pub last-collected : (s : State) (t : ℕ) (r : Role) (e n c : ℕ) (l : List ℕ) → suc (s .highestCollected) ≡ 2 ^ 64 → n < 2 ^ 64 → Past L test s (Asked t (PUT r e n c) l) 10
-      → verdict L test s (Asked t (PUT r e n c) l) ≡ 10
-  last-collected s t r e n c l last fits past = spent-put s t r e n c l (omega arith) past
+  pub last-collected : LastCollected L test
+  last-collected s last t r e n c l fits past = spent-put s t r e n c l (omega arith) past
 
   pub write-once : (asks : List Ask) → WriteOnce L test asks
   write-once asks = record {

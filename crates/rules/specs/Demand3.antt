@@ -64,6 +64,8 @@ historyOf asks = historyFrom atFirst (eventsFrom limits (sound limits) fresh ask
 -- The third demand, and that it says something: row 1 never applies, a collection with room is accepted, and only one list is exact
 pub record Whole (asks : List Ask) : Type 0 where
   pub exact : Exact limits (sound limits) (ledgerOf asks) (historyOf asks)
+  -- the ledger's tables answer to the history: whatever starts from here (a saved ledger, say) has demand 3 by it (Demand3From)
+  pub agrees : Agrees limits (ledgerOf asks) (historyOf asks)
   pub isSound : sound limits (ledgerOf asks) ≡ true
   -- the nth accepted FENCE, COMMIT or COMPACT made manifest n, and the highest is current
   pub counted : ledgerOf asks .current .number ≡ length (makers (eventsFrom limits (sound limits) fresh asks))

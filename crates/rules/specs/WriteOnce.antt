@@ -5,7 +5,7 @@ use mathlib.Core.Path.{_≡_}
 use mathlib.Core.Logic.{_⊎_}
 use mathlib.Core.Bool.{Bool, true, false, cond}
 use mathlib.Core.List.{List, [], _∷_, _++_}
-use Prim.Native.Nat.{ℕ, _≤_, _<_}
+use Prim.Native.Nat.{ℕ, suc, _^_, _≤_, _<_}
 use Rattle.rules.specs.declared.Role.{Role}
 use Rattle.rules.specs.declared.Kind.{Kind}
 use Rattle.rules.specs.declared.Kind.the-variants.{Fence as FENCE, Put as PUT, Commit as COMMIT, Compact as COMPACT, Hold as HOLD, Renew as RENEW, Release as RELEASE, List as LIST, Look as LOOK, Collect as COLLECT}
@@ -15,9 +15,9 @@ use Rattle.rules.specs.Lists.{_∈_, distinct, maximum}
 use Rattle.rules.specs.Limits.{Limits}
 use Rattle.rules.specs.State.{State, freshIn}
 use Rattle.rules.specs.Words.{stored}
-use Rattle.rules.specs.Table.{Row}
 use Rattle.rules.specs.Request.{Request, Asked, Unreadable, Ask}
-use Rattle.rules.specs.Step.{Reply, rowsOf, verdict, reply, accepts, next}
+use Rattle.rules.specs.Step.{Reply, verdict, reply, accepts, next}
+use Rattle.rules.specs.Verdict.{Past}
 use Rattle.rules.specs.History.{Event}
 use Rattle.rules.specs.Demand3.{ledgerFrom, eventsFrom}
 
@@ -61,10 +61,6 @@ module _ (L : Limits) (test : State → Bool) where
   collectedFrom s [] = []
   collectedFrom s (a ∷ asks) = cond (accepts L test s a) (goneBy (reply L test s (a .request))) [] ++ collectedFrom (next L test s a) asks
 
-  -- no row before that number applies
-  abbrev pub Past : State → Request → ℕ → Type 0
-  Past s q n = (r : Row) → r ∈ rowsOf L test s q → r .number < n → r .applies ≡ false
-
   abbrev after : List Ask → State
   after asks = ledgerFrom L test (freshIn L) asks
 
@@ -81,7 +77,11 @@ module _ (L : Limits) (test : State → Bool) where
     pub kept : (n : ℕ) → n ∈ putsIn asks → (stored (after asks) n ≡ true) ⊎ (n ∈ collectedIn asks)
     -- no number is put twice
     pub once : distinct (putsIn asks) ≡ true
-    -- what is at most a number that was collected is spent, also where it was never put: a PUT of it, past 9, gives 10.
-    -- So "once [2^64-1] is collected, every PUT past 9 gives 10"
-    pub spent : (m n : ℕ) → m ∈ collectedIn asks → n ≤ m → (t : ℕ) (r : Role) (e c : ℕ) (l : List ℕ) → Past (after asks) (Asked t (PUT r e n c) l) 10
+    -- what is at most a number that was collected is spent, also where it was never put: a PUT of it, past 9, gives 10
+    pub spent : (m n : ℕ) → m ∈ collectedIn asks → n ≤ m → (t : ℕ) (r : Role) (e c : ℕ) (l : List ℕ) → Past L test (after asks) (Asked t (PUT r e n c) l) 10
         → verdict L test (after asks) (Asked t (PUT r e n c) l) ≡ 10
+
+  -- "once [2^64-1] is collected, every PUT past 9 gives 10", of any ledger
+  abbrev pub LastCollected : Type 0
+  LastCollected = (s : State) → suc (s .highestCollected) ≡ 2 ^ 64 → (t : ℕ) (r : Role) (e n c : ℕ) (l : List ℕ) → n < 2 ^ 64
+      → Past L test s (Asked t (PUT r e n c) l) 10 → verdict L test s (Asked t (PUT r e n c) l) ≡ 10
