@@ -64,13 +64,6 @@ pub rising-miss : (floor n : ℕ) (ns : List ℕ) → ltb floor n ≡ false → 
 unfolding risingAbove
 rising-miss floor n ns e = rw e
 
--- A test of several parts, part after part: the first that fails decides, and the last where none before it fails
-pub also : {a b x : Bool} → a ≡ true → x ≡ b → x ≡ (a && b)
-also {a} {b} p q = q ∙ ap (λ (t : Bool). t && b) (sym p)
-
-pub fails : {a : Bool} (b : Bool) → a ≡ false → false ≡ (a && b)
-fails b p = ap (λ (t : Bool). t && b) (sym p)
-
 -- A choice of several cases: the first test that holds decides
 pub here : {A : Type 0} {b : Bool} {v : A} (w : A) → b ≡ true → v ≡ cond b v w
 here {v = v} w t = ap (λ (c : Bool). cond c v w) (sym t)

@@ -9,7 +9,7 @@ use Rattle.fields.specs.Fields.{over}
 use Rattle.sheets.specs.declared.Sheet.{Sheet}
 use Rattle.sheets.specs.declared.SheetRead.{SheetRead}
 use Rattle.sheets.specs.declared.SheetRead.the-variants.{Read, Malformed}
-use Rattle.sheets.specs.Sheets.{decodeSheet, sheetWriting}
+use Rattle.sheets.specs.Sheets.{decodeSheet, sheetWriting, sheetCode}
 use Rattle.desk.specs.declared.Sale.{Sale}
 use Rattle.desk.specs.declared.Sale.the-variants.{Charged, Refused}
 use Rattle.desk.specs.declared.SaleAnswer.{SaleAnswer}
@@ -31,8 +31,8 @@ abbrev pub sheetNumbers : Sheet → List ℕ
 sheetNumbers s = s .object ∷ s .currency ∷ s .numerator ∷ s .denominator ∷ []
 
 abbrev pub sheetTold : SheetRead → List ℕ → Call
-sheetTold Malformed numbers = record { answer = 2; left = numbers }
-sheetTold (Read s) numbers = record { answer = 0; left = over (sheetNumbers s) numbers }
+sheetTold Malformed numbers = record { answer = sheetCode Malformed; left = numbers }
+sheetTold (Read s) numbers = record { answer = sheetCode (Read s); left = over (sheetNumbers s) numbers }
 
 -- 3 where there is no place for the numbers, 2 for no sheet
 unfoldable pub readSheet : List ℕ → List ℕ → Call

@@ -5,8 +5,6 @@ use mathlib.Core.List.{List, [], _∷_}
 use Prim.Native.Nat.{ℕ}
 use lib.Dec.{eqb, ltb}
 use lib.ListN.{length, take, getD}
-use Rattle.fields.specs.declared.Next.{Next}
-use Rattle.fields.specs.declared.Next.the-variants.{End, Torn, Record}
 use Rattle.fields.specs.Fields.{over}
 use Rattle.rules.specs.declared.Role.{Role}
 use Rattle.rules.specs.declared.Role.the-variants.{Writer, Compactor}
@@ -21,11 +19,9 @@ use Rattle.records.specs.declared.Reading.{Reading}
 use Rattle.records.specs.declared.Reading.the-variants.{Read, Malformed}
 use Rattle.records.specs.declared.StepRead.{StepRead}
 use Rattle.records.specs.declared.VerdictRead.{VerdictRead}
-use Rattle.records.specs.declared.Write.{Write}
-use Rattle.records.specs.declared.Write.the-variants.{Written, Malformed as Unsayable, Full}
 use Rattle.records.specs.Steps.{decodeStep, stepRead}
 use Rattle.records.specs.Verdicts.{decodeVerdict, verdictRead}
-use Rattle.records.specs.Writing.{Writing, stepWriting, verdictWriting}
+use Rattle.records.specs.Writing.{readingCode, writeCode, Writing, stepWriting, verdictWriting}
 use Rattle.exports.specs.declared.AnswerRead.{AnswerRead}
 use Rattle.exports.specs.declared.AnswerRead.the-variants.{Known as IsAnswer, Unknown as NoAnswer}
 use Rattle.exports.specs.Names.{Call}
@@ -52,19 +48,8 @@ lentBoth n m numbers list rest =
 
 -- 0 with both slices filled from the start, 2 with both as they were
 abbrev pub told : Reading → List ℕ → List ℕ → List ℕ → List ℕ → Lent
-told Read a b numbers list = record { answer = 0; numbers = over a numbers; list = over b list }
-told Malformed a b numbers list = record { answer = 2; numbers = numbers; list = list }
-
-abbrev pub nextCode : Next → ℕ
-nextCode End = 0
-nextCode Torn = 1
-nextCode (Record n) = n
-
--- how many bytes were written; 2 for what no reader takes, 0 where room is short
-abbrev pub writeCode : Write → ℕ
-writeCode (Written n) = n
-writeCode Unsayable = 2
-writeCode Full = 0
+told Read a b numbers list = record { answer = readingCode Read; numbers = over a numbers; list = over b list }
+told Malformed a b numbers list = record { answer = readingCode Malformed; numbers = numbers; list = list }
 
 abbrev pub written : Writing → Call
 written w = record { answer = writeCode (w .answer); left = w .buffer }

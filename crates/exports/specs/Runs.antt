@@ -8,17 +8,9 @@ use lib.ListN.{length}
 use Rattle.fields.specs.Fields.{over}
 use Rattle.rules.specs.State.{fresh}
 use Rattle.ledger.specs.Ledger.{lay}
-use Rattle.replay.specs.declared.Ending.{Ending}
-use Rattle.replay.specs.declared.Ending.the-variants.{Whole, Torn, Full}
 use Rattle.replay.specs.declared.Ran.{Ran}
-use Rattle.replay.specs.Replay.{Replay, replayOf}
+use Rattle.replay.specs.Replay.{endingCode, Replay, replayOf}
 use Rattle.exports.specs.Ledgers.{ledgerNumbers, ledgerFrom, ledgerSize}
-
--- 0 whole, 1 torn, 2 full
-abbrev pub endingCode : Ending → ℕ
-endingCode Whole = 0
-endingCode Torn = 1
-endingCode Full = 2
 
 -- the bytes read, then the bytes written, over the first two elements
 abbrev pub countsOf : Ran → List ℕ → List ℕ

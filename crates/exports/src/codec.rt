@@ -3,8 +3,9 @@
 ghost use mathlib.Core.Path.{_≡_};
 ghost use Prim.Native.Nat.{_≤_};
 ghost use lib.ListN.{length};
-ghost use Rattle.fields.specs.Fields.{over, nextOf};
-ghost use Rattle.exports.specs.Codec.{stepSize, roleNumber, stepNumbers, kindOf, fenceOf, putOf, lookOf, verdictNumbers, answerOf, writeCode, nextCode, readStep, writeStep, readVerdict, writeVerdict};
+ghost use Rattle.fields.specs.Fields.{over, nextOf, nextCode};
+ghost use Rattle.records.specs.Writing.{writeCode};
+ghost use Rattle.exports.specs.Codec.{stepSize, roleNumber, stepNumbers, kindOf, fenceOf, putOf, lookOf, verdictNumbers, answerOf, readStep, writeStep, readVerdict, writeVerdict};
 use crate::AnswerRead;
 use crate::FULL;
 use crate::MALFORMED;
@@ -116,7 +117,7 @@ fn step_numbers(t: u64, kind: Kind, n: u64) -> [u64; STEP]
     }
 }
 
-// Reads all the bytes as one step record: its numbers and its list's sixteen places.
+// Reads all the bytes as one step record: its numbers and its list's places.
 #[no_mangle]
 pub extern "C" fn cuudhaqil_read_step(bytes: &[u8], numbers: &mut [u64], list: &mut [u64]) -> u64
     ensures { λ r. ⌜ readStep (now (bytes .entry)) (now (numbers .entry)) (now (list .entry)) ≡ record { answer = r; numbers = now (numbers .exit); list = now (list .exit) } ⌝ }
@@ -197,7 +198,7 @@ fn look_of(money: u64, hold: u64) -> KindRead
 }
 
 // The kind that the numbers of a step say; those that it does not have play no part.
-pub fn kind_of(v: &[u64]) -> KindRead
+pub(crate) fn kind_of(v: &[u64]) -> KindRead
     requires { ⌜ stepSize ≤ length (now v) ⌝ }
     ensures { λ r. ⌜ r ≡ kindOf (now (v .entry)) ⌝ }
 {
@@ -276,7 +277,7 @@ pub fn verdict_numbers(answer: Answer, n: u64) -> [u64; VERDICT]
     }
 }
 
-// Reads all the bytes as one verdict record: its numbers and its list's 64 places.
+// Reads all the bytes as one verdict record: its numbers and its list's places.
 #[no_mangle]
 pub extern "C" fn cuudhaqil_read_verdict(bytes: &[u8], numbers: &mut [u64], list: &mut [u64]) -> u64
     ensures { λ r. ⌜ readVerdict (now (bytes .entry)) (now (numbers .entry)) (now (list .entry)) ≡ record { answer = r; numbers = now (numbers .exit); list = now (list .exit) } ⌝ }

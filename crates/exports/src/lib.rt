@@ -4,6 +4,7 @@ pub mod ledgers;
 pub mod names;
 pub mod runs;
 
+use ledger::Ledger;
 use rules::Answer;
 
 // How many numbers an object, a manifest and a hold have; a manifest's names stand behind the others.
@@ -11,7 +12,7 @@ pub const OBJECT: usize = 5;
 
 pub const NAMES_AT: usize = 4;
 
-pub const MANIFEST: usize = NAMES_AT + rules::NAMES;
+pub const MANIFEST: usize = NAMES_AT + Ledger::NAMES;
 
 pub const HOLD: usize = 3;
 
@@ -21,16 +22,16 @@ pub const OCCUPANCY_AT: usize = 2;
 
 pub const OBJECTS_AT: usize = OCCUPANCY_AT + rules::WORDS;
 
-pub const KEPT_AT: usize = OBJECTS_AT + rules::PLACES * OBJECT;
+pub const KEPT_AT: usize = OBJECTS_AT + Ledger::PLACES * OBJECT;
 
 pub const MANIFESTS_AT: usize = KEPT_AT + 1;
 
-pub const HELD_AT: usize = MANIFESTS_AT + rules::MANIFESTS * MANIFEST;
+pub const HELD_AT: usize = MANIFESTS_AT + Ledger::MANIFESTS * MANIFEST;
 
 pub const HOLDS_AT: usize = HELD_AT + 1;
 
 // How many numbers a ledger, a step and a verdict have, beside their lists.
-pub const LEDGER: usize = HOLDS_AT + rules::HOLDS * HOLD;
+pub const LEDGER: usize = HOLDS_AT + Ledger::HOLDS * HOLD;
 
 pub const STEP: usize = 11;
 

@@ -1,6 +1,7 @@
 // A trace run from C: on the fresh ledger, or on one that is lent as numbers.
 ghost use mathlib.Core.Path.{_≡_};
-ghost use Rattle.exports.specs.Runs.{endingCode, run, runOn};
+ghost use Rattle.replay.specs.Replay.{endingCode};
+ghost use Rattle.exports.specs.Runs.{run, runOn};
 use crate::LEDGER;
 use crate::NO_PLACE;
 use crate::ledgers;

@@ -34,3 +34,9 @@ nextOf bs =
     (cond (ltb (length bs) 3) Torn
     (cond (ltb (length bs) (3 + claimed bs)) Torn
     (Record (3 + claimed bs))))
+
+-- the paper's words as numbers: 0 the end, 1 torn, else the length of the record, which has three bytes or more
+abbrev pub nextCode : Next → ℕ
+nextCode End = 0
+nextCode Torn = 1
+nextCode (Record n) = n

@@ -1,6 +1,6 @@
-// Big-endian numbers and tagged fields in byte slices (document 01, "Records and names"). No function asks anything of
-// its caller but the writers, which are lent exactly the room they fill; those serve the crates above and are no operation
-// of the ledger's.
+// Big-endian numbers and tagged fields in byte slices (document 01, "Records and names"). `read_words`, `put_words`
+// and `put_head` ask for the exact room that they read or fill; they serve the crates above and are no operation of the
+// ledger's.
 ghost use mathlib.Core.Path.{_≡_};
 ghost use Prim.Native.Nat.{_+_, _*_, _≤_};
 ghost use mathlib.Core.List.{_∷_};

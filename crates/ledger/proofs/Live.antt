@@ -13,7 +13,7 @@ use Rattle.rules.specs.declared.Hold.{Hold}
 use Rattle.rules.specs.Limits.{limits}
 use Rattle.rules.specs.Lists.{keep}
 use Rattle.rules.specs.State.{State, epochOf}
-use Rattle.rules.specs.Table.{_if_, row4, row5, row6, row7, row8, row10, row11, row15, row16, row17, rows, firstOf}
+use Rattle.rules.specs.Table.{_if_, row4, row5, row6, row7, row8, row10, row11, row15, row16, row17, rows, firstOf, slotRow}
 use Rattle.rules.specs.Words.{live, liveHolds, isLive, active, stored}
 use Rattle.rules.proofs.Numbers.{keep-length}
 use Rattle.holds.specs.declared.Holds.{Holds}
@@ -21,7 +21,7 @@ use Rattle.holds.specs.Holds.{holdsOf, layHolds, isLaid, hasNumber, namesManife
 use Rattle.holds.proofs.Places as holds
 use Rattle.ledger.specs.declared.Ledger.{Ledger}
 use Rattle.ledger.specs.Ledger.{view, isSound}
-use Rattle.ledger.specs.Rows.{slotRow, rowBehind}
+use Rattle.ledger.specs.Rows.{rowBehind}
 use Rattle.ledger.proofs.View.{sound-shape}
 
 module _ (l : Ledger) (e : isSound l ≡ true) (t : ℕ) {h : Holds} (is : h ≡ layHolds (keep (live t) (holdsOf (l .holds)))) where

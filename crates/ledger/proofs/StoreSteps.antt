@@ -18,7 +18,7 @@ use Rattle.rules.specs.declared.Answer.the-variants.{Done, Epoch}
 use Rattle.rules.specs.Limits.{limits}
 use Rattle.rules.specs.Lists.{_∈_, any, none, maximum}
 use Rattle.rules.specs.State.{State, kept, epochOf}
-use Rattle.rules.specs.Table.{_if_, row4, row5, row6, row7, row8, row10, row11, row17, firstOf}
+use Rattle.rules.specs.Table.{_if_, row4, row5, row6, row7, row8, row10, row11, row17, firstOf, slotRow, fenceRow}
 use Rattle.rules.specs.Words.{stored, currencyOf, ofCurrency, compacted}
 use Rattle.rules.specs.Request.{Request, Asked}
 use Rattle.rules.specs.Step.{settle, tidy, publish, put, act, answers, alone, effect, granted}
@@ -37,7 +37,7 @@ use Rattle.manifests.proofs.Places.{all-at}
 use Rattle.ledger.specs.declared.Ledger.{Ledger}
 use Rattle.ledger.specs.declared.StepAnswer.{StepAnswer}
 use Rattle.ledger.specs.Ledger.{lay, view, isSound}
-use Rattle.ledger.specs.Rows.{slotRow, fenceRow, rowBehind}
+use Rattle.ledger.specs.Rows.{rowBehind}
 use Rattle.ledger.specs.Step.{answeredWith}
 use Rattle.ledger.proofs.View.{Sized, sound-parts, sound-shape}
 use Rattle.ledger.proofs.Live.{fence-rows, put-rows, commit-rows, compact-rows}

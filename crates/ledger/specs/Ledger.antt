@@ -11,7 +11,7 @@ use Rattle.manifests.specs.Manifests.{layManifests, olderOf, currentOf, manifes
 use Rattle.holds.specs.Holds.{layHolds, holdsOf, isLaid as holdsLaid}
 use Rattle.ledger.specs.declared.Ledger.{Ledger}
 
--- a state in its places: used places first, the others all zero, the occupancy word that of the places
+-- a state in its places: used places first, the others all zero, the occupancy words those of the places
 abbrev pub lay : State → Ledger
 lay s = record {
   clock = s .clock;

@@ -55,7 +55,7 @@ pub record Admitted (l : Ledger) (t : ℕ) (k : Kind) (names : List ℕ) : Type 
   pub onTime : l .clock ≤ t
 
 -- a new manifest can be made: the next number fits, and its list fits its places
-pub record Publishable (l : Ledger) (t : ℕ) (count : ℕ) (names : List ℕ) : Type 0 where
+pub record Publishable (l : Ledger) (count : ℕ) (names : List ℕ) : Type 0 where
   pub isSound : isSound l ≡ true
   pub next : suc (view l .current .number) < 2 ^ 64
   pub padded : isPadded count names ≡ true

@@ -1,7 +1,6 @@
 // The ledger: it goes in and the next ledger comes back; nothing is kept elsewhere (document 01, "What the ledger holds").
 mod change;
 mod collect;
-mod rows;
 mod sound;
 mod steps;
 
@@ -29,7 +28,7 @@ pub struct StepAnswer {
 }
 
 impl Ledger {
-    // Objects stored, names in a manifest, kept manifests, holds, and the largest currency.
+    // Objects stored, names in a manifest, kept manifests and holds.
     pub const PLACES: usize = rules::PLACES;
 
     pub const NAMES: usize = rules::NAMES;
@@ -37,8 +36,6 @@ impl Ledger {
     pub const MANIFESTS: usize = rules::MANIFESTS;
 
     pub const HOLDS: usize = rules::HOLDS;
-
-    pub const CURRENCY: u16 = rules::LARGEST_CURRENCY;
 
     // Clock 0, nothing collected, no objects or holds, and manifest 0 with both epochs 0 and an empty list.
     pub fn fresh() -> Self

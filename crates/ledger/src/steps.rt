@@ -18,16 +18,13 @@ ghost use Rattle.ledger.specs.Rows.{rowBehind};
 ghost use Rattle.ledger.specs.Step.{Admitted, refusedWith, answeredWith, ruled, judged, stepOf, doorOf};
 use crate::Ledger;
 use crate::StepAnswer;
-use crate::rows;
 use manifests::KeptManifest;
 use rules::Answer;
-use rules::HOLDS;
 use rules::Hold;
 use rules::Kind;
 use rules::NameList;
 use rules::Object;
 use rules::ObjectList;
-use rules::PLACES;
 use rules::Role;
 use rules::Step;
 use rules::Verdict;
@@ -36,7 +33,7 @@ use rules::Verdict;
 fn verdict_alone(answer: Answer) -> Verdict
     ensures { λ r. ⌜ r ≡ verdictOf (alone answer) ⌝ }
 {
-    let objects = [0u64; PLACES];
+    let objects = [0u64; Ledger::PLACES];
     let list = ObjectList { count: 0, objects };
     Verdict { answer, list }
 }
@@ -82,7 +79,7 @@ impl Ledger {
     {
         let manifests = self.manifests;
         let current = manifests.current();
-        rows::slot_row(slot, current.number)
+        rules::slot_row(slot, current.number)
     }
 
     fn fence(mut self, time: u64, role: Role, slot: u64) -> StepAnswer
@@ -119,7 +116,7 @@ impl Ledger {
     {
         let manifests = self.manifests;
         let current = manifests.current();
-        let row = rows::epoch_row(
+        let row = rules::epoch_row(
             epoch,
             objects::epoch_of(role, current.writer, current.compactor),
         );
@@ -168,11 +165,11 @@ impl Ledger {
     {
         let manifests = self.manifests;
         let current = manifests.current();
-        let fence = rows::fence_row(epoch, current.writer);
+        let fence = rules::fence_row(epoch, current.writer);
         if fence != 0 {
             return fence;
         }
-        let row = rows::slot_row(slot, current.number);
+        let row = rules::slot_row(slot, current.number);
         if row != 0 {
             return row;
         }
@@ -209,11 +206,11 @@ impl Ledger {
     {
         let manifests = self.manifests;
         let current = manifests.current();
-        let fence = rows::fence_row(epoch, current.compactor);
+        let fence = rules::fence_row(epoch, current.compactor);
         if fence != 0 {
             return fence;
         }
-        let row = rows::slot_row(slot, current.number);
+        let row = rules::slot_row(slot, current.number);
         if row != 0 {
             return row;
         }
@@ -265,7 +262,7 @@ impl Ledger {
                 return 13;
             }
         }
-        if HOLDS <= live.count {
+        if Ledger::HOLDS <= live.count {
             return 14;
         }
         0
@@ -397,7 +394,7 @@ fn object_list(names: &[u64]) -> ObjectList
     requires { ⌜ length (now names) ≤ limits .places ⌝ }
     ensures { λ r. ⌜ r ≡ objectList (now (names .entry)) ⌝ }
 {
-    let mut objects = [0u64; PLACES];
+    let mut objects = [0u64; Ledger::PLACES];
     let mut i: usize = 0;
     while i < names.len() {
         objects[i] = names[i];

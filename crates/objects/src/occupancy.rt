@@ -10,7 +10,7 @@ ghost use Rattle.objects.specs.Occupancy.{word, flags, flagsOf, used, lo
 use rules::BITS;
 
 // The word of places with these numbers: a free one has 0.
-pub fn word_of(numbers: &[u64]) -> u64
+pub(crate) fn word_of(numbers: &[u64]) -> u64
     requires { ⌜ length (now numbers) ≤ wordBits ⌝ }
     ensures { λ r. ⌜ r ≡ word (map nonzero (now (numbers .entry))) ⌝ }
 {
@@ -32,7 +32,7 @@ fn lowest_in(bits: u64) -> usize
 }
 
 // The lowest free place, counted across the words in order; the number of places where none is free.
-pub fn lowest_free(words: &[u64]) -> usize
+pub(crate) fn lowest_free(words: &[u64]) -> usize
     requires { ⌜ length (now words) ≤ wordCount ⌝ }
     ensures { λ r. ⌜ r ≡ lowestFree (flagsOf wordBits (now (words .entry))) ⌝ }
 {
@@ -55,7 +55,7 @@ fn taken_in(bits: u64) -> u32
 }
 
 // How many places are taken.
-pub fn count_taken(words: &[u64]) -> usize
+pub(crate) fn count_taken(words: &[u64]) -> usize
     requires { ⌜ length (now words) ≤ wordCount ⌝ }
     ensures { λ r. ⌜ r ≡ used (flagsOf wordBits (now (words .entry))) ⌝ }
 {
@@ -85,7 +85,7 @@ fn without_bit(bits: u64, at: usize) -> u64
 }
 
 // The bit of a place is set.
-pub fn set_bit(words: &mut [u64], at: usize)
+pub(crate) fn set_bit(words: &mut [u64], at: usize)
     requires { ⌜ at < length (now words) * wordBits ⌝ }
     ensures { λ _. ⌜ now (words .exit) ≡ withFlag wordBits true at (now (words .entry)) ⌝ }
 {

@@ -30,6 +30,13 @@ verdictBytes v = encodeVerdict (v .answer) (objectsOf (v .list))
 abbrev pub answerBytes : Ledger → List ℕ → List ℕ
 answerBytes l bytes = verdictBytes (answerTo l bytes .verdict)
 
+-- the paper's words as numbers: 0 the end, 1 torn, 2 full, those of a run's endings; 3 a record was judged, with the bytes read and written
+abbrev pub frontCode : Front → ℕ
+frontCode AtEnd = 0
+frontCode IsTorn = 1
+frontCode Full = 2
+frontCode (Judged n k) = 3
+
 -- what a step on bytes answers, and the output it leaves
 pub record Judgement : Type 0 where
   pub answer : Stepped

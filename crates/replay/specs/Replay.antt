@@ -60,6 +60,12 @@ tell l room (r ∷ rs) =
 
 -- The run whole
 
+-- the paper's words as numbers: 0 whole, 1 torn, 2 full
+abbrev pub endingCode : Ending → ℕ
+endingCode Whole = 0
+endingCode IsTorn = 1
+endingCode Full = 2
+
 -- what a run answers, and the output it leaves
 pub record Replay : Type 0 where
   pub answer : Ran

@@ -19,10 +19,6 @@ use Rattle.rules.proofs.Lists.{any-same, in-any, keep-in, keep-same, tr
 
 -- Manifests
 
--- the new manifest may come after the inactive ones are dropped, the old current one among them: no tenth place is needed
-pub tidy-publish : (w c : ℕ) (l : List ℕ) (s : State) → tidy (publish w c l s) .older ≡ keep (heldBy (s .holds)) (kept s)
-tidy-publish w c l s = refl
-
 module _ {A B : Type 0} (key : A → ℕ) (value : A → B) (default : B) (p : A → Bool) where
   -- dropping what has another key does not change what is found
   pub lookup-keep : (n : ℕ) (l rest : List A) → ((x : A) → x ∈ l → key x ≡ n → p x ≡ true) → lookup key value default n (keep p l ++ rest) ≡ lookup key value default n (l ++ rest)

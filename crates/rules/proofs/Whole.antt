@@ -1,4 +1,4 @@
--- Demand 3 at document 01's limits and soundness, and that it says something.
+-- Demand 3 at the limits in force and document 01's soundness, and that it says something.
 -- Assumes nothing.
 use mathlib.Core.Path.{sym, _∙_}
 use mathlib.Core.List.{List}

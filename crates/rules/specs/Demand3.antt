@@ -53,7 +53,7 @@ module _ (L : Limits) (test : State → Bool) where
   abbrev pub Demand3 : Type 0
   Demand3 = (asks : List Ask) → Exact (ledgerFrom (freshIn L) asks) (historyFrom atFirst (eventsFrom (freshIn L) asks))
 
--- At document 01's limits and soundness
+-- At the limits in force (request 4's) and document 01's soundness
 
 abbrev pub ledgerOf : List Ask → State
 ledgerOf asks = ledgerFrom limits (sound limits) fresh asks

@@ -170,9 +170,6 @@ unfoldable pub historyFrom : History → List Event → History
 historyFrom h [] = h
 historyFrom h (e ∷ es) = historyFrom (feed h e) es
 
-abbrev pub historyOf : List Event → History
-historyOf es = historyFrom atFirst es
-
 -- "The nth accepted FENCE, COMMIT or COMPACT makes manifest n": how many of the events made one
 abbrev pub makesManifest : Kind → Bool
 makesManifest (FENCE r slot) = true

@@ -1,4 +1,4 @@
--- The limits of document 01, each named once. The rules take them as a parameter, and so do their laws.
+-- The limits of documents 01 and 02, each named once. The rules take them as a parameter, and so do their laws.
 -- Assumes nothing.
 use Prim.Native.Nat.{ℕ, suc, _*_}
 

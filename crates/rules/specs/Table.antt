@@ -131,3 +131,17 @@ rows L s t COLLECT l = (2 if row2 L t COLLECT l) ∷ (3 if row3 s t) ∷ []
 unfoldable pub firstOf : List Row → ℕ
 firstOf [] = 0
 firstOf (r ∷ rs) = cond (r .applies) (r .number) (firstOf rs)
+
+-- The rows that several kinds share, as the code asks them of numbers (src/rows.rt)
+
+-- rows 6 and 7, by the current manifest's number
+abbrev pub slotRow : ℕ → ℕ → ℕ
+slotRow current slot = firstOf ((6 if leb slot current) ∷ (7 if ltb (suc current) slot) ∷ [])
+
+-- row 4, by the role's epoch
+abbrev pub epochRow : ℕ → ℕ → ℕ
+epochRow current e = firstOf ((4 if row4 current e) ∷ [])
+
+-- rows 4 and 5
+abbrev pub fenceRow : ℕ → ℕ → ℕ
+fenceRow current e = firstOf ((4 if row4 current e) ∷ (5 if row5 current e) ∷ [])

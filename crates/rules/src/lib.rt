@@ -1,11 +1,17 @@
 // The types that every crate of the ledger shares. What they mean is in specs/, on plain lists: the refusal table, the
-// step, the history, and demand 3 with its proof. The code, at the end, says which steps a record can say.
+// step, the history, and demand 3 with its proof. The code, at the end, says which steps a record can say; `rows` has the
+// rows that several kinds share.
+mod rows;
+
 ghost use mathlib.Core.Path.{_≡_};
 ghost use mathlib.Core.List.{[], _∷_};
 ghost use Rattle.rules.specs.Lists.{conj, risingAbove};
 ghost use Rattle.rules.specs.Limits.{limits};
 ghost use Rattle.rules.specs.Table.{expiryFits, wellFormed};
 ghost use Rattle.rules.specs.Typed.{isPadded, requestOf, canSay};
+pub use rows::epoch_row;
+pub use rows::fence_row;
+pub use rows::slot_row;
 
 // The limits of documents 01 and 02, each named once: the bits of an occupancy word and the words, so the objects stored;
 // object numbers in a manifest; holds; kept manifests (each but the current one is held); the largest number of a currency.

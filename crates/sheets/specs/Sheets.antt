@@ -68,3 +68,8 @@ sheetOfWalk (Found v l) = formed (sheetFrom v)
 -- the sheet that bytes are: one field of that outer tag and nothing behind it
 unfoldable pub decodeSheet : List ℕ → SheetRead
 decodeSheet bs = cond (isWhole bs && eqb (getD bs 0 0) sheetTag) (sheetOfWalk (walk (sheetFields blankSheet) (drop 3 bs))) Malformed
+
+-- the paper's number for what the reader answers: 2 for a malformed sheet, else 0
+abbrev pub sheetCode : SheetRead → ℕ
+sheetCode (Read s) = 0
+sheetCode Malformed = 2

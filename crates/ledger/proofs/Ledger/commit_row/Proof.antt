@@ -9,8 +9,8 @@ use lib.Seq.{length-take-le}
 use Rattle.rules.specs.Typed.{namesOf}
 use Rattle.rules.specs.Words.{stored}
 use Rattle.manifests.specs.declared.KeptManifest.{KeptManifest}
+use Rattle.rules.specs.Table.{fenceRow, slotRow}
 use Rattle.ledger.specs.Ledger.{view}
-use Rattle.ledger.specs.Rows.{fenceRow, slotRow}
 use Rattle.ledger.proofs.View.{sound-parts}
 use Rattle.ledger.proofs.Names.{list-long}
 use Rattle.ledger.proofs.Live.{commit-rows}

@@ -10,14 +10,13 @@ use lib.Dec.{eqb}
 use lib.ListN.{length, take}
 use lib.Seq.{length-take-le}
 use Rattle.rules.specs.Lists.{maximum}
-use Rattle.rules.specs.Table.{row8, row17}
+use Rattle.rules.specs.Table.{row8, row17, fenceRow, slotRow}
 use Rattle.rules.specs.Typed.{isPadded}
 use Rattle.rules.specs.Words.{stored}
 use Rattle.rules.proofs.Typed.{padded-room}
 use Rattle.objects.specs.Objects.{ofCurrencyIn}
 use Rattle.manifests.specs.declared.KeptManifest.{KeptManifest}
 use Rattle.ledger.specs.Ledger.{view}
-use Rattle.ledger.specs.Rows.{fenceRow, slotRow}
 use Rattle.ledger.proofs.View.{sized, sound-parts}
 use Rattle.ledger.proofs.Live.{compact-rows}
 use Rattle.ledger.proofs.StoreSteps.{fencedRows, fence-stop, slot-stop, slot-pass, one-stored, highest-row, current-padded}

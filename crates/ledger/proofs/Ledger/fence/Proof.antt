@@ -44,7 +44,7 @@ next c =
     omega (arith, fence-clear (view (s .self)) (s .time) (c .if1 .left) (s .role) (s .slot) (b .fence-row .ensures (s .time) (s .role)), b .before .fits .slot .fits)
 
 -- and so do the epochs, and the current list its places
-publishable : (c : tie.After-current) → let s = c .before .before .before .before .args in Publishable (s .self) (s .time) (c .current .result .count) (c .current .result .names)
+publishable : (c : tie.After-current) → let s = c .before .before .before .before .args in Publishable (s .self) (c .current .result .count) (c .current .result .names)
 publishable c =
     let e = c .before .before in
     let st = e .before .before in

@@ -3,8 +3,8 @@
 use mathlib.Core.Path.{sym, ap, _∙_}
 use borrow.Author.Needs.{needs}
 use Rattle.holds.proofs.Places as holds
+use Rattle.rules.specs.Table.{slotRow}
 use Rattle.ledger.specs.Ledger.{view}
-use Rattle.ledger.specs.Rows.{slotRow}
 use Rattle.ledger.proofs.View.{sound-parts}
 use Rattle.ledger.proofs.Live.{fence-rows}
 use Rattle.manifests.specs.declared.KeptManifest.{KeptManifest}

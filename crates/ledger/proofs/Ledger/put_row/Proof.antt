@@ -7,13 +7,12 @@ use native.Mathlib.Omega.{arith}
 use borrow.Author.Needs.{needs}
 use borrow.Author.Tests.{lt-leb, le-leb}
 use Rattle.rules.specs.State.{epochOf}
-use Rattle.rules.specs.Table.{row4}
+use Rattle.rules.specs.Table.{row4, epochRow}
 use Rattle.rules.specs.Words.{stored}
 use Rattle.objects.specs.Objects.{roleEpoch}
 use Rattle.manifests.specs.declared.KeptManifest.{KeptManifest}
 use Rattle.manifests.specs.Manifests.{currentOf}
 use Rattle.ledger.specs.Ledger.{view}
-use Rattle.ledger.specs.Rows.{epochRow}
 use Rattle.ledger.proofs.View.{sound-parts}
 use Rattle.ledger.proofs.Live.{put-rows}
 use Rattle.ledger.proofs.StoreSteps.{one-stop, one-pass, role-epoch}

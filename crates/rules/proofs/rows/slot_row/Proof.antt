@@ -3,9 +3,9 @@
 use Prim.Native.Nat.{suc}
 use native.Mathlib.Omega.{arith}
 use borrow.Author.Tests.{lt-ltb, le-ltb, lt-leb, le-leb}
 use Rattle.rules.specs.Table.{firstOf}
-use Rattle.ledger.proofs.rows.slot_row.Statement.{statement}
-use Rattle.ledger.proofs.rows.slot_row.Tie as tie
+use Rattle.rules.proofs.rows.slot_row.Statement.{statement}
+use Rattle.rules.proofs.rows.slot_row.Tie as tie
 
 returns : tie.Need-returns
 unfolding firstOf

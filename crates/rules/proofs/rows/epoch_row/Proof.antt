@@ -1,9 +1,9 @@
 -- `epoch_row` meets its contract: the row's two parts in their order.
 -- Assumes nothing.
 use borrow.Author.Tests.{eq-eqb, ne-eqb, lt-ltb, le-ltb}
 use Rattle.rules.specs.Table.{firstOf}
-use Rattle.ledger.proofs.rows.epoch_row.Statement.{statement}
-use Rattle.ledger.proofs.rows.epoch_row.Tie as tie
+use Rattle.rules.proofs.rows.epoch_row.Statement.{statement}
+use Rattle.rules.proofs.rows.epoch_row.Tie as tie
 
 returns : tie.Need-returns
 unfolding firstOf

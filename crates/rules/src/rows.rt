@@ -1,6 +1,6 @@
 // The rows of the refusal table that several kinds share, on numbers.
 ghost use mathlib.Core.Path.{_≡_};
-ghost use Rattle.ledger.specs.Rows.{slotRow, epochRow, fenceRow};
+ghost use Rattle.rules.specs.Table.{slotRow, epochRow, fenceRow};
 
 // Rows 6 and 7: the slot is the next one, or it is refused. No sum is made, so none wraps at the last number.
 pub fn slot_row(slot: u64, current: u64) -> u8

@@ -1,0 +1,5 @@
+pub mod AnyLedger
+pub mod Fronts
+pub mod Buffers
+pub mod Sequences
+pub mod Guarantees

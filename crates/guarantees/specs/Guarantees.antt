@@ -1,0 +1,238 @@
+-- What is guaranteed, on one page: the customer's three demands, then each request of document 02 that has landed. Every claim has its quantifiers here;
+-- `Guarantees`, at the end, holds them all, and proofs/Guarantees.antt proves it. docs/GUARANTEES.md says each in plain words. Assumes nothing.
+--
+-- That the code answers what these definitions say is each operation's own contract, in its crate's src/, without a `requires`:
+--   Ledger::fresh         lay fresh                       Ledger::step    judged, of what the step asks (requestOf)
+--   Ledger::is_sound      isSound                         Ledger::refuse_unreadable   judged, of Unreadable
+--   replay::step_record   frontStep                       replay::run     replayOf
+--   records::read_step    stepRead of decodeStep          records::write_step      stepWriting
+--   records::read_verdict verdictRead of decodeVerdict    records::write_verdict   verdictWriting
+--   store_names::read_name     decode                     store_names::write_name  writing
+--   sheets::read_sheet    decodeSheet                     sheets::write_sheet      sheetWriting
+--   desk::sell            saleOf                          desk::fill_card          cardOf and answerOf
+--   manifests::reaches    reachOf                         listing::read_listing    listingOf
+use mathlib.Core.Path.{_≡_}
+use mathlib.Core.Logic.{_⊎_, _↔_}
+use mathlib.Core.Bool.{Bool, true, false}
+use mathlib.Core.List.{List, []}
+use Prim.Native.Nat.{ℕ, _≤_, _<_}
+use lib.ListN.{length, take}
+use Rattle.store_names.specs.RoundTrip.{RoundTrip}
+use Rattle.fields.specs.declared.Next.the-variants.{Torn, Record}
+use Rattle.fields.specs.Fields.{over, nextOf}
+use Rattle.rules.specs.declared.Kind.the-variants.{Collect as COLLECT}
+use Rattle.rules.specs.declared.Step.{Step}
+use Rattle.rules.specs.declared.Verdict.{Verdict}
+use Rattle.rules.specs.Lists.{has, none, risingAbove}
+use Rattle.rules.specs.Limits.{Limits, limits}
+use Rattle.rules.specs.State.{State, fresh}
+use Rattle.rules.specs.Words.{stored, listed}
+use Rattle.rules.specs.Table.{Row}
+use Rattle.rules.specs.Request.{Request, Asked, Unreadable, Ask}
+use Rattle.rules.specs.Step.{code, effect, granted, longestVerdict, rowsOf}
+use Rattle.rules.specs.Typed.{namesOf, objectsOf}
+use Rattle.rules.specs.Verdict.{Smallest, VerdictSmallest, RefusalKeeps, LastManifest, CommitsExact}
+use Rattle.rules.specs.History.{storedAt, listedAt, deadAt}
+use Rattle.rules.specs.Demand3.{historyOf, Demand3From, Whole}
+use Rattle.rules.specs.WriteOnce.{WriteOnce, LastCollected}
+use Rattle.rules.specs.Rates.{heldAt, ratesAt, LooksFrom, Looks}
+use Rattle.rules.specs.Raised.{OldVerdictsKept}
+use Rattle.rules.specs.Depot as depot
+use Rattle.rules.specs.OutOfOrder as outOfOrder
+use Rattle.records.specs.declared.Reading.the-variants.{Read}
+use Rattle.records.specs.declared.StepRead.{StepRead}
+use Rattle.records.specs.declared.VerdictRead.{VerdictRead}
+use Rattle.records.specs.declared.Write.the-variants.{Written, Malformed}
+use Rattle.records.specs.Steps.{fieldsOf, decodeStep, stepRead}
+use Rattle.records.specs.Verdicts.{verdictFields, decodeVerdict, verdictRead, NoVerdict}
+use Rattle.records.specs.Writing.{Writing, stepWriting, verdictWriting}
+use Rattle.records.specs.RoundTrip.{allFit, areBytes, StepRoundTrip, VerdictRoundTrip}
+use Rattle.objects.specs.Occupancy.{OccupancyByWords}
+use Rattle.manifests.specs.Search.{SearchByHalves}
+use Rattle.manifests.specs.Reach.{ReachByHalves}
+use Rattle.ledger.specs.declared.Ledger.{Ledger}
+use Rattle.ledger.specs.Ledger.{lay, view, isSound}
+use Rattle.ledger.specs.SoundLaw.{SoundLayout}
+use Rattle.ledger.specs.Step.{refusedWith, answeredWith, judged}
+use Rattle.ledger.specs.Look.{LookOutcome}
+use Rattle.ledger.specs.Demand3.{verdictSize, ledgerAfter, Delivered}
+use Rattle.ledger.specs.Depot as onLedger
+use Rattle.replay.specs.Front.{answerBytes, frontCode, unchanged, recordStep, frontStep}
+use Rattle.replay.specs.Counts.{Counted}
+use Rattle.replay.specs.Commit.{CommitsOnBytes}
+use Rattle.replay.specs.Demand3.{RunDelivered}
+use Rattle.sheets.specs.RoundTrip.{SheetRoundTrip}
+use Rattle.desk.specs.declared.Sale.the-variants.{Charged}
+use Rattle.desk.specs.Charge.{ChargeIsSmallest}
+use Rattle.desk.specs.Sale.{saleOf}
+use Rattle.desk.specs.NoRate.{SaleExact, LookedExact, NoRateNoCharge}
+use Rattle.desk.specs.Onward.{Onward}
+use Rattle.listing.specs.Lines.{Cut}
+use Rattle.listing.specs.Whole as listing
+
+-- ---- Demand 1. Any bytes, any ledger value, any output room. "Each step is accepted or refused with one number from the table"; a refusal, a torn record
+-- and a verdict that does not fit change nothing.
+
+-- the number that a request is given on any ledger value, and the rows that can apply to it there: row 1 asks the ledger itself
+abbrev pub numberOn : Ledger → Request → ℕ
+numberOn l q = code (judged l q .verdict .answer)
+
+abbrev pub rowsOn : Ledger → Request → List Row
+rowsOn l q = rowsOf limits (λ s. isSound l) (view l) q
+
+pub record Demand1 : Type 0 where
+  -- "The smallest number that applies is the verdict, and no number is given otherwise."
+  pub oneNumber : (l : Ledger) (q : Request) → Smallest (rowsOn l q) (numberOn l q)
+  -- a refused step leaves the ledger as it was, sound or not; a record that is no step is one, refused with 2, or 1 where the ledger is not sound
+  pub refused : (l : Ledger) (q : Request) → (numberOn l q ≡ 0 → ⊥) → judged l q ≡ refusedWith (numberOn l q) l
+  pub noStep : (l : Ledger) → ((isSound l ≡ true) × (numberOn l Unreadable ≡ 2)) ⊎ ((isSound l ≡ false) × (numberOn l Unreadable ≡ 1))
+  -- the same in bytes, with any room
+  pub refusedRecord : (l : Ledger) (bytes out : List ℕ) → (numberOn l (decodeStep bytes) ≡ 0 → ⊥) → recordStep l bytes out .answer .ledger ≡ l
+  pub noStepRecord : (l : Ledger) (bytes out : List ℕ) → decodeStep bytes ≡ Unreadable → recordStep l bytes out .answer .ledger ≡ l
+  -- at the end of a trace, torn (1) and full (2) neither the ledger nor a byte of the output changes
+  pub untouched : (l : Ledger) (trace out : List ℕ) → frontCode (frontStep l trace out .answer .front) < 3
+      → frontStep l trace out ≡ unchanged (frontStep l trace out .answer .front) l out
+  pub torn : (l : Ledger) (trace out : List ℕ) → (frontCode (frontStep l trace out .answer .front) ≡ 1) ↔ (nextOf trace ≡ Torn)
+  -- ""full" is said exactly when its verdict is longer than the room left"
+  pub full : (l : Ledger) (trace out : List ℕ) (n : ℕ) → nextOf trace ≡ Record n
+      → (frontCode (frontStep l trace out .answer .front) ≡ 2) ↔ (length out < length (answerBytes l (take n trace)))
+
+-- ---- Demand 2. "Each verdict, next ledger and output byte shall be the one the step rules give"; a commit takes effect exactly under its conditions;
+-- records and names are read and written, each undoing the other, and all else is refused.
+
+-- Reading and writing on what the operations promise, a value and a buffer; `Fits`: the value's numbers fit their types
+pub record OnBuffers {A R : Type 0} (Fits : A → Type 0) (write : A → List ℕ → Writing) (read : List ℕ → R) (found : A → R) (refusal : R) : Type 0 where
+  -- what was written into a buffer is read as the value
+  pub readsWritten : (v : A) → Fits v → (buffer : List ℕ) (n : ℕ) → write v buffer .answer ≡ Written n → read (take n (write v buffer .buffer)) ≡ found v
+  -- what was read is written, where there is room, as the bytes that it was read from; those beyond stay
+  pub writesRead : (v : A) (bytes buffer : List ℕ) → areBytes bytes ≡ true → read bytes ≡ found v → length bytes ≤ length buffer
+      → write v buffer ≡ record { answer = Written (length bytes); buffer = over bytes buffer }
+  -- the reader refuses the bytes that no value is written as
+  pub refusesBytes : (bytes : List ℕ) → areBytes bytes ≡ true
+      → ((v : A) → Fits v → (buffer : List ℕ) → length bytes ≤ length buffer → write v buffer ≡ record { answer = Written (length bytes); buffer = over bytes buffer } → ⊥)
+      → read bytes ≡ refusal
+  -- "Writers answer 2 for what no reader takes", and for nothing else
+  pub refusesValue : (v : A) → Fits v → (buffer : List ℕ) → (write v buffer .answer ≡ Malformed) ↔ ((bytes : List ℕ) → areBytes bytes ≡ true → read bytes ≡ found v → ⊥)
+
+-- a typed step and a typed verdict, as their types have them
+pub record StepFits (p : Step) : Type 0 where
+  pub numbers : allFit (fieldsOf (p .time) (p .kind)) (namesOf (p .list)) ≡ true
+  pub places : length (p .list .names) ≡ limits .names
+
+pub record VerdictFits (v : Verdict) : Type 0 where
+  pub numbers : allFit (verdictFields (v .answer)) (objectsOf (v .list)) ≡ true
+  pub places : length (v .list .objects) ≡ limits .places
+
+abbrev pub stepFound : Step → StepRead
+stepFound p = record { reading = Read; step = p }
+
+abbrev pub verdictFound : Verdict → VerdictRead
+verdictFound v = record { reading = Read; verdict = v }
+
+pub record Demand2 : Type 0 where
+  -- an accepted step answers and leaves what the rules say, laid out in its places; a ledger is sound exactly when it is the layout of a sound state
+  pub accepted : (l : Ledger) (q : Request) → numberOn l q ≡ 0 → judged l q ≡ answeredWith (granted q (view l)) (lay (effect q (view l)))
+  pub layout : SoundLayout
+  -- a commit, on the rules and in bytes; whatever the limits
+  pub commits : (L : Limits) → CommitsExact L
+  pub commitsOnBytes : CommitsOnBytes
+  -- the table, whatever the limits and row 1's test; "At manifest 2^64-1 every slot gives 6 .. smaller numbers still go first"
+  pub smallest : (L : Limits) (test : State → Bool) → VerdictSmallest L test
+  pub keeps : (L : Limits) (test : State → Bool) → RefusalKeeps L test
+  pub lastManifest : (L : Limits) (test : State → Bool) → LastManifest L test
+  -- a run's counts are the lengths of the records answered and of the verdicts written, and the bytes beyond stay
+  pub counted : (l : Ledger) (trace out : List ℕ) → Counted l trace out
+  -- records and names, on lists of bytes; then on a typed value and a buffer
+  pub steps : StepRoundTrip
+  pub verdicts : VerdictRoundTrip
+  pub names : RoundTrip
+  pub stepsOnBuffers : OnBuffers StepFits stepWriting (λ bytes. stepRead (decodeStep bytes)) stepFound (stepRead Unreadable)
+  pub verdictsOnBuffers : OnBuffers VerdictFits verdictWriting (λ bytes. verdictRead (decodeVerdict bytes)) verdictFound (verdictRead NoVerdict)
+  -- one week at the depot, on the rules and through the ledger's own step
+  pub week : depot.WeekHolds
+  pub weekOnLedger : onLedger.WeekHolds
+
+-- ---- Demand 3. Any sequence of steps from fresh, refused ones and those without room among them; the history is fed what was asked and whether it was
+-- accepted, and nothing else.
+
+-- the ledger that a caller keeps after the asks
+abbrev pub keptBy : List Ask → Ledger
+keptBy asks = ledgerAfter (lay fresh) asks
+
+-- a COLLECT of that time, and the list that the ledger answers it with
+abbrev pub collectAt : ℕ → Request
+collectAt t = Asked t COLLECT []
+
+abbrev pub collectedAt : ℕ → List Ask → List ℕ
+collectedAt t asks = objectsOf (judged (keptBy asks) (collectAt t) .verdict .list)
+
+pub record Demand3 : Type 0 where
+  -- a collection asked next, at any time, and accepted, lists, rising and once each, exactly what the history says is dead at its time
+  pub collects : (asks : List Ask) (t : ℕ) → numberOn (keptBy asks) (collectAt t) ≡ 0
+      → (risingAbove 0 (collectedAt t asks) ≡ true) × ((n : ℕ) → has n (collectedAt t asks) ≡ deadAt t (historyOf asks) n)
+  -- and at the clock's time or later it is accepted
+  pub collectable : (asks : List Ask) (t : ℕ) → keptBy asks .clock ≤ t → numberOn (keptBy asks) (collectAt t) ≡ 0
+  -- at the clock's time and at every later one, what the current manifest or a live hold names, by the history or in the ledger, is stored, by the history
+  -- and in the ledger
+  pub keeps : (asks : List Ask) (t : ℕ) → keptBy asks .clock ≤ t → (n : ℕ) → (listedAt t (historyOf asks) n ≡ true) ⊎ (listed t (view (keptBy asks)) n ≡ true)
+      → (storedAt (historyOf asks) n ≡ true) × (stored (view (keptBy asks)) n ≡ true)
+  -- the claims that these are drawn from: from any ledger and history that agree, whatever the limits and row 1's test; from fresh, on the rules, on the
+  -- ledger in its places, and of a run over any bytes with any room
+  pub onward : (L : Limits) (test : State → Bool) → Demand3From L test
+  pub whole : (asks : List Ask) → Whole asks
+  pub delivered : (asks : List Ask) → Delivered asks
+  pub runs : (trace out : List ℕ) → RunDelivered trace out
+
+-- ---- The requests that have landed
+
+-- [1] parallel writers land out of order; a number is put once
+pub record Request1 : Type 0 where
+  pub writeOnce : (L : Limits) (test : State → Bool) (asks : List Ask) → WriteOnce L test asks
+  pub lastCollected : (L : Limits) (test : State → Bool) → LastCollected L test
+  pub outOfOrder : outOfOrder.OutOfOrderHolds
+  pub outOfOrderOnLedger : onLedger.OutOfOrderHolds
+
+-- [2] the sale desk: "an absent rate shall stop the sale"
+pub record Request2 : Type 0 where
+  -- where the history has no rate in that currency, or no such live hold, nothing is charged, whatever the sheet
+  pub noRate : (asks : List Ask) (time : ℕ) (sheet : List ℕ) (currency hold fare : ℕ)
+      → (none (ratesAt time (historyOf asks) currency hold) ≡ true) ⊎ ((0 < hold) × (heldAt time (historyOf asks) hold ≡ false))
+      → (n : ℕ) → saleOf (keptBy asks) time sheet currency hold fare .sale ≡ Charged n → ⊥
+  -- what a charged sale went by, and by which sheets one is charged, by the history; a refused one leaves the ledger, whatever it was
+  pub sales : (asks : List Ask) (time : ℕ) (sheet : List ℕ) (currency hold fare : ℕ) → NoRateNoCharge asks time sheet currency hold fare
+  pub anySale : (l : Ledger) (time : ℕ) (sheet : List ℕ) (currency hold fare : ℕ) → SaleExact l time sheet currency hold fare
+  pub charge : ChargeIsSmallest
+  -- what every look is answered, by the history alone, on the rules and at the desk; on any ledger value it finds or refuses
+  pub looks : (asks : List Ask) → Looks asks
+  pub looksOnward : (L : Limits) (test : State → Bool) → LooksFrom L test
+  pub looked : (asks : List Ask) (time currency hold : ℕ) → LookedExact asks time currency hold
+  pub anyLook : LookOutcome
+  -- the desk's ledgers are those of LOOKs asked one after another
+  pub onward : Onward
+  pub sheets : SheetRoundTrip
+
+-- [3] the reach test searches rising lists by halves, with a count
+pub record Request3 : Type 0 where
+  pub search : SearchByHalves
+  pub reach : ReachByHalves
+
+-- [4] 256 places in four words, 64 names; a trace that never met an old limit keeps its verdicts
+pub record Request4 : Type 0 where
+  pub occupancy : OccupancyByWords
+  pub oldVerdicts : OldVerdictsKept
+  pub longest : longestVerdict ≡ 2058
+
+-- [5] names have folders (Demand2 .names); a listing is cut into lines in one way, and which bytes are a whole one and what it says
+pub record Request5 : Type 0 where
+  pub lines : Cut
+  pub whole : listing.Whole
+
+pub record Guarantees : Type 0 where
+  pub demand1 : Demand1
+  pub demand2 : Demand2
+  pub demand3 : Demand3
+  pub request1 : Request1
+  pub request2 : Request2
+  pub request3 : Request3
+  pub request4 : Request4
+  pub request5 : Request5
