@@ -19,7 +19,7 @@ use Rattle.desk.specs.Sale.{saleCode, saleOf}
 use Rattle.desk.specs.Card.{rowOf, rowLimit}
 use Rattle.exports.specs.Names.{Call}
 use Rattle.exports.specs.Codec.{written}
-use Rattle.exports.specs.Ledgers.{ledgerNumbers, ledgerFrom, ledgerSize}
+use Rattle.ledger_numbers.specs.Numbers.{ledgerNumbers, ledgerFrom, ledgerSize}
 
 -- a currency above 65,535 is taken as 65,535, which no sheet has
 abbrev pub narrow : ℕ → ℕ

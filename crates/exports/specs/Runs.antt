@@ -10,7 +10,7 @@ use Rattle.rules.specs.State.{fresh}
 use Rattle.ledger.specs.Ledger.{lay}
 use Rattle.replay.specs.declared.Ran.{Ran}
 use Rattle.replay.specs.Replay.{endingCode, Replay, replayOf}
-use Rattle.exports.specs.Ledgers.{ledgerNumbers, ledgerFrom, ledgerSize}
+use Rattle.ledger_numbers.specs.Numbers.{ledgerNumbers, ledgerFrom, ledgerSize}
 
 -- the bytes read, then the bytes written, over the first two elements
 abbrev pub countsOf : Ran → List ℕ → List ℕ

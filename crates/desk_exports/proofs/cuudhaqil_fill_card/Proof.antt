@@ -11,8 +11,8 @@ use Rattle.ledger.specs.declared.Ledger.{Ledger}
 use Rattle.desk.specs.declared.Entry.{Entry}
 use Rattle.desk.specs.declared.RowFilled.{RowFilled}
 use Rattle.desk.specs.Card.{rowOf}
-use Rattle.exports.specs.Ledgers.{ledgerNumbers, ledgerSize}
-use Rattle.exports.proofs.Places.{over-lent}
+use Rattle.ledger_numbers.specs.Numbers.{ledgerNumbers, ledgerSize}
+use Rattle.ledger_numbers.proofs.Places.{over-lent}
 use Rattle.desk.specs.Card.{rowLimit}
 use Rattle.desk_exports.specs.Calls.{filledIn, fillCard}
 use Rattle.desk_exports.proofs.cuudhaqil_fill_card.Statement.{statement}

@@ -11,9 +11,9 @@ use Rattle.fields.specs.Fields.{over}
 use Rattle.ledger.specs.declared.Ledger.{Ledger}
 use Rattle.desk.specs.declared.SaleAnswer.{SaleAnswer}
 use Rattle.desk.specs.Sale.{saleOf}
-use Rattle.exports.specs.Ledgers.{ledgerNumbers, ledgerSize}
-use Rattle.exports.proofs.Over.{over-two}
-use Rattle.exports.proofs.Places.{over-lent}
+use Rattle.ledger_numbers.specs.Numbers.{ledgerNumbers, ledgerSize}
+use Rattle.ledger_numbers.proofs.Over.{over-two}
+use Rattle.ledger_numbers.proofs.Places.{over-lent}
 use Rattle.desk_exports.specs.Calls.{told, sell}
 use Rattle.desk_exports.proofs.cuudhaqil_sell.Statement.{statement}
 use Rattle.desk_exports.proofs.cuudhaqil_sell.Tie as tie

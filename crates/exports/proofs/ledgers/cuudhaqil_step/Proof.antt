@@ -9,8 +9,9 @@ use borrow.Rule.Slice.PartMut.{mid-len}
 use Rattle.rules.specs.Limits.{limits}
 use Rattle.ledger.specs.Step.{stepOf}
 use Rattle.exports.specs.Codec.{stepSize, verdictSize}
-use Rattle.exports.specs.Ledgers.{ledgerSize, ledgerNumbers, stepped, step}
-use Rattle.exports.proofs.Places.{over-lent}
+use Rattle.ledger_numbers.specs.Numbers.{ledgerSize, ledgerNumbers}
+use Rattle.exports.specs.Ledgers.{stepped, step}
+use Rattle.ledger_numbers.proofs.Places.{over-lent}
 use Rattle.exports.proofs.ledgers.cuudhaqil_step.Statement.{statement}
 use Rattle.exports.proofs.ledgers.cuudhaqil_step.Tie as tie
 

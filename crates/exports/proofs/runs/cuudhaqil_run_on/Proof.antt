@@ -8,10 +8,10 @@ use borrow.Author.Tests.{lt-ltb, le-ltb}
 use borrow.Rule.Slice.PartMut.{mid-len}
 use Rattle.ledger.specs.declared.Ledger.{Ledger}
 use Rattle.replay.specs.Replay.{Replay, replayOf}
-use Rattle.exports.specs.Ledgers.{ledgerSize, ledgerNumbers}
+use Rattle.ledger_numbers.specs.Numbers.{ledgerSize, ledgerNumbers}
 use Rattle.exports.specs.Runs.{calledOn, runOn}
-use Rattle.exports.proofs.Over.{over-two}
-use Rattle.exports.proofs.Places.{over-lent}
+use Rattle.ledger_numbers.proofs.Over.{over-two}
+use Rattle.ledger_numbers.proofs.Places.{over-lent}
 use Rattle.exports.proofs.runs.cuudhaqil_run_on.Statement.{statement}
 use Rattle.exports.proofs.runs.cuudhaqil_run_on.Tie as tie
 

@@ -1,4 +1,4 @@
--- `exports::ledgers::manifest_from` meets its contract: each field is the number at its place, and the names are those behind them.
+-- `manifest_from` meets its contract: each field is the number at its place, and the names are those behind them.
 -- Assumes nothing.
 use mathlib.Core.Path.{_≡_, _∙_}
 use native.Mathlib.Omega.{arith}
@@ -6,10 +6,10 @@ use lib.ListN.{length, take, drop, replicate, length-drop}
 use lib.Seq.{length-take-le}
 use borrow.Author.Needs.{needs}
 use Rattle.rules.specs.Limits.{limits}
-use Rattle.exports.specs.Ledgers.{namesAt}
-use Rattle.exports.proofs.Over.{over-all}
-use Rattle.exports.proofs.ledgers.manifest_from.Statement.{statement}
-use Rattle.exports.proofs.ledgers.manifest_from.Tie as tie
+use Rattle.ledger_numbers.specs.Numbers.{namesAt}
+use Rattle.ledger_numbers.proofs.Over.{over-all}
+use Rattle.ledger_numbers.proofs.manifest_from.Statement.{statement}
+use Rattle.ledger_numbers.proofs.manifest_from.Tie as tie
 
 returns : tie.Need-returns
 returns c =

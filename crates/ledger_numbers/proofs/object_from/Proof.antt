@@ -1,8 +1,8 @@
--- `exports::ledgers::object_from` meets its contract: each field is the number at its place.
+-- `object_from` meets its contract: each field is the number at its place.
 -- Assumes nothing.
 use borrow.Author.Needs.{needs}
-use Rattle.exports.proofs.ledgers.object_from.Statement.{statement}
-use Rattle.exports.proofs.ledgers.object_from.Tie as tie
+use Rattle.ledger_numbers.proofs.object_from.Statement.{statement}
+use Rattle.ledger_numbers.proofs.object_from.Tie as tie
 
 returns : tie.Need-returns
 returns c = rw (c .before .before .before .role-from .ensures)

@@ -1,8 +1,8 @@
--- `exports::ledgers::role_from` meets its contract: 0 is the writer.
+-- `role_from` meets its contract: 0 is the writer.
 -- Assumes nothing.
 use borrow.Author.Tests.{eq-eqb, ne-eqb}
-use Rattle.exports.proofs.ledgers.role_from.Statement.{statement}
-use Rattle.exports.proofs.ledgers.role_from.Tie as tie
+use Rattle.ledger_numbers.proofs.role_from.Statement.{statement}
+use Rattle.ledger_numbers.proofs.role_from.Tie as tie
 
 returns : tie.Need-returns
 returns c = rw (eq-eqb (c .before .args .n) 0 (c .if1 .taken))

@@ -9,8 +9,8 @@ use lib.ListN.{length, getD, take, drop, set, drop-of-length-le, length-append, 
 use lib.Seq.{take-all, take-suc-set, append-snoc, drop-cons, drop-drop, length-take-le, set-at, take-at, drop-at}
 use Rattle.fields.specs.Fields.{over}
 use Rattle.fields.proofs.Bytes.{take-next}
-use Rattle.exports.specs.Ledgers.{each, flat}
-use Rattle.exports.proofs.Over.{over-all}
+use Rattle.ledger_numbers.specs.Numbers.{each, flat}
+use Rattle.ledger_numbers.proofs.Over.{over-all}
 
 next-place : (size i : ℕ) → size * i + size ≡ size * (i + 1)
 next-place size i = rw add-one (sym (mul-suc size i))

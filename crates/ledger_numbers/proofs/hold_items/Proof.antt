@@ -1,4 +1,4 @@
--- `exports::ledgers::hold_items` meets its contract: the invariant: what is filled, and then the places from i on, are the places of all.
+-- `hold_items` meets its contract: the invariant: what is filled, and then the places from i on, are the places of all.
 -- Assumes nothing.
 use mathlib.Core.Path.{_≡_, refl}
 use mathlib.Core.List.{_++_}
@@ -7,10 +7,10 @@ use native.Mathlib.Omega.{arith}
 use lib.ListN.{length, take, drop, length-set}
 use borrow.Author.Needs.{needs}
 use Rattle.rules.specs.Limits.{limits}
-use Rattle.exports.specs.Ledgers.{each, holdSize, holdFrom}
-use Rattle.exports.proofs.Places.{each-next, each-done}
-use Rattle.exports.proofs.ledgers.hold_items.Statement.{statement}
-use Rattle.exports.proofs.ledgers.hold_items.Tie as tie
+use Rattle.ledger_numbers.specs.Numbers.{each, holdSize, holdFrom}
+use Rattle.ledger_numbers.proofs.Places.{each-next, each-done}
+use Rattle.ledger_numbers.proofs.hold_items.Statement.{statement}
+use Rattle.ledger_numbers.proofs.hold_items.Tie as tie
 
 abbrev Inv-loop : tie.InvT-loop
 Inv-loop v items₀ i₀ items i = (i ≤ limits .holds) × (length items ≡ limits .holds) × (take i items ++ each holdFrom holdSize (limits .holds - i) (drop (holdSize * i) v) ≡ each holdFrom holdSize (limits .holds) v)

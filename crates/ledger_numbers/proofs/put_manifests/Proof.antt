@@ -1,4 +1,4 @@
--- `exports::ledgers::put_manifests` meets its contract: the invariant: what is written, and then the places from i on, are the numbers of all.
+-- `put_manifests` meets its contract: the invariant: what is written, and then the places from i on, are the numbers of all.
 -- Assumes nothing.
 use mathlib.Core.Path.{_≡_, refl, sym, ap, _∙_}
 use mathlib.Core.List.{List, _++_}
@@ -10,10 +10,10 @@ use borrow.Rule.Slice.PartMut.{same-len-mid, mid-len, midOf, postOf}
 use Rattle.manifests.specs.Manifests.{pastEnd}
 use Rattle.rules.specs.Limits.{limits, manifestLimit}
 use Rattle.fields.specs.Fields.{over}
-use Rattle.exports.specs.Ledgers.{manifestSize, flat, manifestNumbers}
-use Rattle.exports.proofs.Places.{flat-next, flat-done}
-use Rattle.exports.proofs.ledgers.put_manifests.Statement.{statement}
-use Rattle.exports.proofs.ledgers.put_manifests.Tie as tie
+use Rattle.ledger_numbers.specs.Numbers.{manifestSize, flat, manifestNumbers}
+use Rattle.ledger_numbers.proofs.Places.{flat-next, flat-done}
+use Rattle.ledger_numbers.proofs.put_manifests.Statement.{statement}
+use Rattle.ledger_numbers.proofs.put_manifests.Tie as tie
 
 abbrev Inv-loop : tie.InvT-loop
 Inv-loop out₀ items i₀ out i = (i ≤ manifestLimit limits) × (length out ≡ length out₀) × (length out ≡ manifestLimit limits * manifestSize) × (length items ≡ manifestLimit limits) × (take (manifestSize * i) out ++ flat manifestNumbers (drop i items) ≡ flat manifestNumbers items)

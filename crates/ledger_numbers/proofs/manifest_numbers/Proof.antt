@@ -1,4 +1,4 @@
--- `exports::ledgers::manifest_numbers` meets its contract: four numbers, and the names over the rest.
+-- `manifest_numbers` meets its contract: four numbers, and the names over the rest.
 -- Assumes nothing.
 use mathlib.Core.Path.{_≡_, _∙_}
 use mathlib.Core.List.{append-nil}
@@ -6,9 +6,9 @@ use native.Mathlib.Omega.{arith}
 use lib.ListN.{length, replicate}
 use borrow.Author.Needs.{needs}
 use Rattle.rules.specs.Limits.{limits}
-use Rattle.exports.proofs.Over.{over-all}
-use Rattle.exports.proofs.ledgers.manifest_numbers.Statement.{statement}
-use Rattle.exports.proofs.ledgers.manifest_numbers.Tie as tie
+use Rattle.ledger_numbers.proofs.Over.{over-all}
+use Rattle.ledger_numbers.proofs.manifest_numbers.Statement.{statement}
+use Rattle.ledger_numbers.proofs.manifest_numbers.Tie as tie
 
 fill-requires : tie.Need-fill-requires
 fill-requires c κs =

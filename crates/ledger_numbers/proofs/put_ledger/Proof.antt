@@ -1,4 +1,4 @@
--- `exports::ledgers::put_ledger` meets its contract: each part lies behind those before it.
+-- `put_ledger` meets its contract: each part lies behind those before it.
 -- Assumes nothing.
 use mathlib.Core.Path.{_≡_, _∙_}
 use mathlib.Core.List.{List, [], _∷_, _++_, append-assoc}
@@ -9,11 +9,11 @@ use borrow.Author.Needs.{needs}
 use borrow.Rule.Slice.PartMut.{mid-len, midOf, putMid}
 use Rattle.rules.specs.Limits.{limits, manifestLimit, wordCount}
 use Rattle.ledger.specs.declared.Ledger.{Ledger}
-use Rattle.exports.specs.Ledgers.{objectSize, manifestSize, holdSize, occupancyAt, objectsAt, keptAt, manifestsAt, heldAt, holdsAt, ledgerSize, flat, objectNumbers, manifestNumbers, holdNumbers, ledgerNumbers}
-use Rattle.exports.proofs.Over.{over-all}
-use Rattle.exports.proofs.Places.{Lying, lying-long, lying-none, lying-one, lying-part, lying-all}
-use Rattle.exports.proofs.ledgers.put_ledger.Statement.{statement}
-use Rattle.exports.proofs.ledgers.put_ledger.Tie as tie
+use Rattle.ledger_numbers.specs.Numbers.{objectSize, manifestSize, holdSize, occupancyAt, objectsAt, keptAt, manifestsAt, heldAt, holdsAt, ledgerSize, flat, objectNumbers, manifestNumbers, holdNumbers, ledgerNumbers}
+use Rattle.ledger_numbers.proofs.Over.{over-all}
+use Rattle.ledger_numbers.proofs.Places.{Lying, lying-long, lying-none, lying-one, lying-part, lying-all}
+use Rattle.ledger_numbers.proofs.put_ledger.Statement.{statement}
+use Rattle.ledger_numbers.proofs.put_ledger.Tie as tie
 
 -- The ledger's numbers up to the end of a part
 

@@ -1,4 +1,4 @@
--- `exports::ledgers::ledger_from` meets its contract: each part is read from its place on.
+-- `ledger_from` meets its contract: each part is read from its place on.
 -- Assumes nothing.
 use mathlib.Core.Path.{_≡_, _∙_, ap}
 use mathlib.Core.List.{List}
@@ -9,10 +9,10 @@ use lib.Seq.{take-all, length-take-le}
 use borrow.Author.Needs.{needs}
 use Rattle.rules.specs.Limits.{limits, manifestLimit, wordCount}
 use Rattle.fields.specs.Fields.{over}
-use Rattle.exports.specs.Ledgers.{objectSize, manifestSize, holdSize, occupancyAt, objectsAt, manifestsAt, holdsAt, each, objectFrom, manifestFrom, holdFrom, ledgerFrom}
-use Rattle.exports.proofs.Over.{over-all}
-use Rattle.exports.proofs.ledgers.ledger_from.Statement.{statement}
-use Rattle.exports.proofs.ledgers.ledger_from.Tie as tie
+use Rattle.ledger_numbers.specs.Numbers.{objectSize, manifestSize, holdSize, occupancyAt, objectsAt, manifestsAt, holdsAt, each, objectFrom, manifestFrom, holdFrom, ledgerFrom}
+use Rattle.ledger_numbers.proofs.Over.{over-all}
+use Rattle.ledger_numbers.proofs.ledger_from.Statement.{statement}
+use Rattle.ledger_numbers.proofs.ledger_from.Tie as tie
 
 -- a part from its place on
 from : (a : ℕ) (v : List ℕ) → take (length v - a) (drop a v) ≡ drop a v

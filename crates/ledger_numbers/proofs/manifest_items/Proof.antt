@@ -1,4 +1,4 @@
--- `exports::ledgers::manifest_items` meets its contract: the invariant: what is filled, and then the places from i on, are the places of all.
+-- `manifest_items` meets its contract: the invariant: what is filled, and then the places from i on, are the places of all.
 -- Assumes nothing.
 use mathlib.Core.Path.{_≡_, refl}
 use mathlib.Core.List.{_++_}
@@ -7,10 +7,10 @@ use native.Mathlib.Omega.{arith}
 use lib.ListN.{length, take, drop, length-set}
 use borrow.Author.Needs.{needs}
 use Rattle.rules.specs.Limits.{limits, manifestLimit}
-use Rattle.exports.specs.Ledgers.{each, manifestSize, manifestFrom}
-use Rattle.exports.proofs.Places.{each-next, each-done}
-use Rattle.exports.proofs.ledgers.manifest_items.Statement.{statement}
-use Rattle.exports.proofs.ledgers.manifest_items.Tie as tie
+use Rattle.ledger_numbers.specs.Numbers.{each, manifestSize, manifestFrom}
+use Rattle.ledger_numbers.proofs.Places.{each-next, each-done}
+use Rattle.ledger_numbers.proofs.manifest_items.Statement.{statement}
+use Rattle.ledger_numbers.proofs.manifest_items.Tie as tie
 
 abbrev Inv-loop : tie.InvT-loop
 Inv-loop v items₀ i₀ items i = (i ≤ manifestLimit limits) × (length items ≡ manifestLimit limits) × (take i items ++ each manifestFrom manifestSize (manifestLimit limits - i) (drop (manifestSize * i) v) ≡ each manifestFrom manifestSize (manifestLimit limits) v)

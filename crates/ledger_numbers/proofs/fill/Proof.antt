@@ -1,4 +1,4 @@
--- `exports::codec::fill` meets its contract: the invariant: the numbers up to i lie over the start, and the rest is as it was.
+-- `fill` meets its contract: the invariant: the numbers up to i lie over the start, and the rest is as it was.
 -- Assumes nothing.
 use mathlib.Core.Path.{_≡_, refl}
 use Prim.Native.Nat.{_-_, _≤_}
@@ -6,9 +6,9 @@ use native.Mathlib.Omega.{arith}
 use lib.ListN.{length, take, length-set}
 use lib.Seq.{take-all}
 use Rattle.fields.specs.Fields.{over}
-use Rattle.exports.proofs.Over.{over-next}
-use Rattle.exports.proofs.codec.fill.Statement.{statement}
-use Rattle.exports.proofs.codec.fill.Tie as tie
+use Rattle.ledger_numbers.proofs.Over.{over-next}
+use Rattle.ledger_numbers.proofs.fill.Statement.{statement}
+use Rattle.ledger_numbers.proofs.fill.Tie as tie
 
 abbrev Inv-loop : tie.InvT-loop
 Inv-loop from to₀ i₀ to i = (i ≤ length from) × (length to ≡ length to₀) × (to ≡ over (take i from) to₀)

@@ -1,4 +1,4 @@
--- `exports::ledgers::put_objects` meets its contract: the invariant: what is written, and then the places from i on, are the numbers of all.
+-- `put_objects` meets its contract: the invariant: what is written, and then the places from i on, are the numbers of all.
 -- Assumes nothing.
 use mathlib.Core.Path.{_≡_, refl, sym, ap, _∙_}
 use mathlib.Core.List.{List, _++_}
@@ -10,10 +10,10 @@ use borrow.Rule.Slice.PartMut.{same-len-mid, mid-len, midOf, postOf}
 use Rattle.rules.specs.State.{free}
 use Rattle.rules.specs.Limits.{limits}
 use Rattle.fields.specs.Fields.{over}
-use Rattle.exports.specs.Ledgers.{objectSize, flat, objectNumbers}
-use Rattle.exports.proofs.Places.{flat-next, flat-done}
-use Rattle.exports.proofs.ledgers.put_objects.Statement.{statement}
-use Rattle.exports.proofs.ledgers.put_objects.Tie as tie
+use Rattle.ledger_numbers.specs.Numbers.{objectSize, flat, objectNumbers}
+use Rattle.ledger_numbers.proofs.Places.{flat-next, flat-done}
+use Rattle.ledger_numbers.proofs.put_objects.Statement.{statement}
+use Rattle.ledger_numbers.proofs.put_objects.Tie as tie
 
 abbrev Inv-loop : tie.InvT-loop
 Inv-loop out₀ items i₀ out i = (i ≤ limits .places) × (length out ≡ length out₀) × (length out ≡ limits .places * objectSize) × (length items ≡ limits .places) × (take (objectSize * i) out ++ flat objectNumbers (drop i items) ≡ flat objectNumbers items)

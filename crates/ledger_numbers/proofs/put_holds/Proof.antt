@@ -1,4 +1,4 @@
--- `exports::ledgers::put_holds` meets its contract: the invariant: what is written, and then the places from i on, are the numbers of all.
+-- `put_holds` meets its contract: the invariant: what is written, and then the places from i on, are the numbers of all.
 -- Assumes nothing.
 use mathlib.Core.Path.{_≡_, refl, sym, ap, _∙_}
 use mathlib.Core.List.{List, _++_}
@@ -10,10 +10,10 @@ use borrow.Rule.Slice.PartMut.{same-len-mid, mid-len, midOf, postOf}
 use Rattle.holds.specs.Holds.{noHold}
 use Rattle.rules.specs.Limits.{limits}
 use Rattle.fields.specs.Fields.{over}
-use Rattle.exports.specs.Ledgers.{holdSize, flat, holdNumbers}
-use Rattle.exports.proofs.Places.{flat-next, flat-done}
-use Rattle.exports.proofs.ledgers.put_holds.Statement.{statement}
-use Rattle.exports.proofs.ledgers.put_holds.Tie as tie
+use Rattle.ledger_numbers.specs.Numbers.{holdSize, flat, holdNumbers}
+use Rattle.ledger_numbers.proofs.Places.{flat-next, flat-done}
+use Rattle.ledger_numbers.proofs.put_holds.Statement.{statement}
+use Rattle.ledger_numbers.proofs.put_holds.Tie as tie
 
 abbrev Inv-loop : tie.InvT-loop
 Inv-loop out₀ items i₀ out i = (i ≤ limits .holds) × (length out ≡ length out₀) × (length out ≡ limits .holds * holdSize) × (length items ≡ limits .holds) × (take (holdSize * i) out ++ flat holdNumbers (drop i items) ≡ flat holdNumbers items)

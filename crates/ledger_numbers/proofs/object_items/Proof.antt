@@ -1,4 +1,4 @@
--- `exports::ledgers::object_items` meets its contract: the invariant: what is filled, and then the places from i on, are the places of all.
+-- `object_items` meets its contract: the invariant: what is filled, and then the places from i on, are the places of all.
 -- Assumes nothing.
 use mathlib.Core.Path.{_≡_, refl}
 use mathlib.Core.List.{_++_}
@@ -7,10 +7,10 @@ use native.Mathlib.Omega.{arith}
 use lib.ListN.{length, take, drop, length-set}
 use borrow.Author.Needs.{needs}
 use Rattle.rules.specs.Limits.{limits}
-use Rattle.exports.specs.Ledgers.{each, objectSize, objectFrom}
-use Rattle.exports.proofs.Places.{each-next, each-done}
-use Rattle.exports.proofs.ledgers.object_items.Statement.{statement}
-use Rattle.exports.proofs.ledgers.object_items.Tie as tie
+use Rattle.ledger_numbers.specs.Numbers.{each, objectSize, objectFrom}
+use Rattle.ledger_numbers.proofs.Places.{each-next, each-done}
+use Rattle.ledger_numbers.proofs.object_items.Statement.{statement}
+use Rattle.ledger_numbers.proofs.object_items.Tie as tie
 
 abbrev Inv-loop : tie.InvT-loop
 Inv-loop v items₀ i₀ items i = (i ≤ limits .places) × (length items ≡ limits .places) × (take i items ++ each objectFrom objectSize (limits .places - i) (drop (objectSize * i) v) ≡ each objectFrom objectSize (limits .places) v)
