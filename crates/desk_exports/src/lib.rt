@@ -8,10 +8,10 @@ ghost use Rattle.desk_exports.specs.Calls.{narrow, chargeIn, readSheet, 
 use desk::Entry;
 use desk::ROW;
 use desk::Sale;
-use ledger_numbers::LEDGER;
 use exports::MALFORMED;
 use exports::NO_PLACE;
 use exports::codec;
+use ledger_numbers::LEDGER;
 use sheets::Sheet;
 use sheets::SheetRead;
 
@@ -112,7 +112,7 @@ pub extern "C" fn cuudhaqil_sell(
     let money = narrow_currency(currency);
     let sold = desk::sell(old, time, sheet, money, hold, fare);
     let next = sold.ledger;
-    ledger_numbers::put_ledger(next, &mut ledger[0..LEDGER]);
+    ledger_numbers::lay_back(next, ledger);
     let told = sold.sale;
     sale[0] = sale_code(told);
     sale[1] = charge_in(told);
@@ -185,7 +185,7 @@ pub extern "C" fn cuudhaqil_fill_card(
     let row = row_from(card, n);
     let filled = desk::fill_row(old, time, hold, n, row);
     let next = filled.ledger;
-    ledger_numbers::put_ledger(next, &mut ledger[0..LEDGER]);
+    ledger_numbers::lay_back(next, ledger);
     let entries = filled.entries;
     put_filled(entries, n, card);
     filled.code as u64

@@ -59,7 +59,19 @@ fn step_numbers(t: u64, kind: Kind, n: u64) -> [u64; STEP]
     ensures { λ r. ⌜ r ≡ stepNumbers t kind n ⌝ }
 {
     match kind {
-        Kind::Fence { role, slot } => [0, t, ledger_numbers::role_number(role), 0, slot, 0, 0, 0, 0, 0, n],
+        Kind::Fence { role, slot } => [
+            0,
+            t,
+            ledger_numbers::role_number(role),
+            0,
+            slot,
+            0,
+            0,
+            0,
+            0,
+            0,
+            n,
+        ],
         Kind::Put {
             role,
             epoch,

@@ -4,14 +4,15 @@ ghost use Prim.Native.Nat.{_≤_};
 ghost use lib.ListN.{length, getD, take};
 ghost use Rattle.rules.specs.Limits.{limits};
 ghost use Rattle.fields.specs.Fields.{over};
-ghost use Rattle.exports.specs.Codec.{stepSize, verdictSize, verdictNumbers};
-ghost use Rattle.exports.specs.Ledgers.{fresh, step};
-use crate::MALFORMED;
+ghost use Rattle.ledger.specs.Step.{judged};
+ghost use Rattle.exports.specs.Codec.{stepSize, verdictSize, verdictNumbers, kindOf};
+ghost use Rattle.exports.specs.Ledgers.{fresh, soundness, current, version, requestOf, step};
 use crate::NO_PLACE;
 use crate::STEP;
 use crate::VERDICT;
 use crate::codec;
 use ledger::Ledger;
+use ledger::StepAnswer;
 use ledger_numbers::LEDGER;
 use records::KindRead;
 use rules::Kind;
@@ -20,6 +21,17 @@ use rules::NameList;
 use rules::PLACES;
 use rules::Step;
 use rules::Verdict;
+
+// What the calls answer of a ledger: it is sound, or the number of row 1.
+const SOUND: u64 = 0;
+
+const NOT_SOUND: u64 = 1;
+
+// The current manifest's number, the writer's epoch, the compactor's.
+const CURRENT: usize = 3;
+
+// The version of the calls: 1,000,000 for the base, 1,000 for each request that has landed, one for each change after it.
+const VERSION: u64 = 1005000;
 
 // The fresh ledger, as numbers.
 #[no_mangle]
@@ -32,6 +44,51 @@ pub extern "C" fn cuudhaqil_fresh(numbers: &mut [u64]) -> u64
     let ledger = Ledger::fresh();
     ledger_numbers::put_ledger(ledger, &mut numbers[0..LEDGER]);
     0
+}
+
+// Whether the ledger is sound: 0, or row 1's number.
+#[no_mangle]
+pub extern "C" fn cuudhaqil_is_sound(ledger: &[u64]) -> u64
+    ensures { λ r. ⌜ r ≡ soundness (now (ledger .entry)) ⌝ }
+{
+    if ledger.len() < LEDGER {
+        return NO_PLACE;
+    }
+    let said = ledger_numbers::ledger_from(ledger);
+    if said.is_sound() {
+        return SOUND;
+    }
+    NOT_SOUND
+}
+
+// The current manifest's number and both epochs, of a sound ledger.
+#[no_mangle]
+pub extern "C" fn cuudhaqil_current(ledger: &[u64], numbers: &mut [u64]) -> u64
+    ensures { λ r. ⌜ current (now (ledger .entry)) (now (numbers .entry)) ≡ record { answer = r; left = now (numbers .exit) } ⌝ }
+{
+    if ledger.len() < LEDGER {
+        return NO_PLACE;
+    }
+    if numbers.len() < CURRENT {
+        return NO_PLACE;
+    }
+    let said = ledger_numbers::ledger_from(ledger);
+    if !said.is_sound() {
+        return NOT_SOUND;
+    }
+    let manifests = said.manifests;
+    let current = manifests.current();
+    let from = [current.number, current.writer, current.compactor];
+    ledger_numbers::fill(&from, numbers);
+    SOUND
+}
+
+// The version of the calls.
+#[no_mangle]
+pub extern "C" fn cuudhaqil_version() -> u64
+    ensures { λ r. ⌜ r ≡ version ⌝ }
+{
+    VERSION
 }
 
 // The step of that kind, with its time and its list.
@@ -49,6 +106,20 @@ fn step_from(kind: Kind, numbers: &[u64], list: &[u64]) -> Step
         kind,
         list: l,
     }
+}
+
+// The verdict and the next ledger of the step that the numbers say. Numbers that say no kind are refused as bytes that are no
+// step.
+fn judge(old: Ledger, numbers: &[u64], list: &[u64]) -> StepAnswer
+    requires { ⌜ (stepSize ≤ length (now numbers)) × (limits .names ≤ length (now list)) ⌝ }
+    ensures { λ r. ⌜ r ≡ judged old (requestOf (kindOf (now (numbers .entry))) (now (numbers .entry)) (now (list .entry))) ⌝ }
+{
+    let read = codec::kind_of(numbers);
+    let KindRead::Known(kind) = read else {
+        return old.refuse_unreadable();
+    };
+    let asked = step_from(kind, numbers, list);
+    old.step(asked)
 }
 
 // Lays the verdict's numbers and its list over the start of the others.
@@ -90,15 +161,10 @@ pub extern "C" fn cuudhaqil_step(
     if objects.len() < PLACES {
         return NO_PLACE;
     }
-    let read = codec::kind_of(numbers);
-    let KindRead::Known(kind) = read else {
-        return MALFORMED;
-    };
-    let asked = step_from(kind, numbers, list);
     let old = ledger_numbers::ledger_from(ledger);
-    let answered = old.step(asked);
+    let answered = judge(old, numbers, list);
     let next = answered.ledger;
-    ledger_numbers::put_ledger(next, &mut ledger[0..LEDGER]);
+    ledger_numbers::lay_back(next, ledger);
     let said = answered.verdict;
     put_verdict(said, verdict, objects);
     0

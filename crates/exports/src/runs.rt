@@ -55,7 +55,7 @@ pub extern "C" fn cuudhaqil_run_on(
     let old = ledger_numbers::ledger_from(ledger);
     let ran = replay::run(old, trace, out);
     let next = ran.ledger;
-    ledger_numbers::put_ledger(next, &mut ledger[0..LEDGER]);
+    ledger_numbers::lay_back(next, ledger);
     counts[0] = ran.read as u64;
     counts[1] = ran.written as u64;
     let ending = ran.ending;

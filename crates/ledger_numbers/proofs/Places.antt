@@ -1,5 +1,6 @@
 -- Laws of a ledger's places as numbers, over what a place is and how many numbers it has. Assumes nothing.
 use mathlib.Core.Path.{_≡_, refl, sym, ap, _∙_}
+use mathlib.Core.Bool.{Bool, true, false}
 use mathlib.Core.List.{List, [], _∷_, _++_, append-assoc, append-nil}
 use Prim.Native.Nat.{ℕ, suc, _+_, _-_, _*_, _≤_, _<_}
 use native.Mathlib.Nat.{mul-suc}
@@ -8,6 +9,7 @@ use native.Mathlib.Omega.{arith}
 use lib.ListN.{length, getD, take, drop, set, drop-of-length-le, length-append, length-drop}
 use lib.Seq.{take-all, take-suc-set, append-snoc, drop-cons, drop-drop, length-take-le, set-at, take-at, drop-at}
 use Rattle.fields.specs.Fields.{over}
+use Rattle.rules.specs.Lists.{conj}
 use Rattle.fields.proofs.Bytes.{take-next}
 use Rattle.ledger_numbers.specs.Numbers.{each, flat}
 use Rattle.ledger_numbers.proofs.Over.{over-all}
@@ -41,6 +43,26 @@ each-next {A} f size k i v items x h long e inv =
 pub each-done : {A : Type 0} (f : List ℕ → A) (size k i : ℕ) (v : List ℕ) (items : List A) → k ≤ i → length items ≡ k → take i items ++ each f size (k - i) (drop (size * i) v) ≡ each f size k v → items ≡ each f size k v
 each-done f size k i v items h long inv =
     rw (each-end f size k i (drop (size * i) v) h, append-nil, take-all i items (omega (arith, h, long))) at inv
+
+-- a test of every place, from i on: the place at i passes it or not, or none is left
+module _ (p : List ℕ → Bool) (size k i : ℕ) (v : List ℕ) where
+  abbrev part : List ℕ
+  part = take (length v - size * i) (drop (size * i) v)
+
+  part-all : part ≡ drop (size * i) v
+  part-all = take-all (length v - size * i) (drop (size * i) v) (omega (arith, length-drop (size * i) v))
+
+  pub all-hit : i < k → p part ≡ true → conj (each p size (k - i) (drop (size * i) v)) ≡ conj (each p size (k - (i + 1)) (drop (size * (i + 1)) v))
+  unfolding conj
+  all-hit h e = rw (each-from p size k i v h, sym (ap p part-all) ∙ e)
+
+  pub all-miss : i < k → p part ≡ false → conj (each p size (k - i) (drop (size * i) v)) ≡ false
+  unfolding conj
+  all-miss h e = rw (each-from p size k i v h, sym (ap p part-all) ∙ e)
+
+  pub all-over : k ≤ i → conj (each p size (k - i) (drop (size * i) v)) ≡ true
+  unfolding conj
+  all-over h = rw (each-end p size k i (drop (size * i) v) h)
 
 -- Out
 

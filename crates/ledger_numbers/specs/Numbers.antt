@@ -3,18 +3,22 @@
 use mathlib.Core.Bool.{Bool, true, false, not, cond}
 use mathlib.Core.List.{List, [], _∷_, _++_}
 use Prim.Native.Nat.{ℕ, zero, suc, _+_, _*_, _%_}
-use lib.Dec.{eqb}
+use lib.Dec.{eqb, leb}
 use lib.ListN.{take, drop, getD}
+use Rattle.fields.specs.Fields.{over}
 use Rattle.rules.specs.declared.Role.{Role}
 use Rattle.rules.specs.declared.Role.the-variants.{Writer, Compactor}
 use Rattle.rules.specs.declared.Object.{Object}
 use Rattle.rules.specs.declared.Hold.{Hold}
+use Rattle.rules.specs.Lists.{conj}
 use Rattle.rules.specs.Limits.{limits, manifestLimit, wordCount}
+use Rattle.rules.specs.State.{fresh}
 use Rattle.objects.specs.declared.Objects.{Objects}
 use Rattle.manifests.specs.declared.KeptManifest.{KeptManifest}
 use Rattle.manifests.specs.declared.Manifests.{Manifests}
 use Rattle.holds.specs.declared.Holds.{Holds}
 use Rattle.ledger.specs.declared.Ledger.{Ledger}
+use Rattle.ledger.specs.Ledger.{lay}
 
 abbrev pub roleNumber : Role → ℕ
 roleNumber Writer = 0
@@ -84,7 +88,11 @@ ledgerNumbers l =
     ++ (l .manifests .count ∷ (flat manifestNumbers (l .manifests .items)
     ++ (l .holds .count ∷ flat holdNumbers (l .holds .items))))))
 
--- In, of any numbers: a role is 0 or not, a mark is 0 or not, a currency's last 16 bits are taken
+-- In, of any numbers
+
+-- the largest number of 16 bits
+abbrev pub largestCurrency : ℕ
+largestCurrency = 65535
 
 abbrev pub roleFrom : ℕ → Role
 roleFrom n = cond (eqb n 0) Writer Compactor
@@ -112,5 +120,32 @@ manifestsFrom v = record { count = getD v keptAt 0; items = each manifestFrom ma
 abbrev pub holdsFrom : List ℕ → Holds
 holdsFrom v = record { count = getD v heldAt 0; items = each holdFrom holdSize (limits .holds) (drop holdsAt v) }
 
+-- what numbers say that a ledger can be
+unfoldable pub ledgerSaid : List ℕ → Ledger
+ledgerSaid v = record { clock = getD v 0 0; collected = getD v 1 0; objects = objectsFrom v; manifests = manifestsFrom v; holds = holdsFrom v }
+
+-- a place that an object can be: its role and its mark are 0 or 1, and its currency has 16 bits
+abbrev pub canBe : List ℕ → Bool
+canBe v = conj (leb (getD v 1 0) 1 ∷ leb (getD v 3 0) largestCurrency ∷ leb (getD v 4 0) 1 ∷ [])
+
+-- numbers that a ledger can be: every place can be an object. (Any count is a ledger's: one that fits no place is not sound.)
+unfoldable pub isLedger : List ℕ → Bool
+isLedger v = conj (each canBe objectSize (limits .places) (drop objectsAt v))
+
+-- the fresh ledger without its manifest: no ledger is sound that has none (Exact.antt)
+abbrev pub noManifest : Ledger
+noManifest = record {
+  clock = lay fresh .clock;
+  collected = lay fresh .collected;
+  objects = lay fresh .objects;
+  manifests = record { count = 0; items = lay fresh .manifests .items };
+  holds = lay fresh .holds;
+}
+
+-- numbers that no ledger can be are a ledger that is not sound: 1
 unfoldable pub ledgerFrom : List ℕ → Ledger
-ledgerFrom v = record { clock = getD v 0 0; collected = getD v 1 0; objects = objectsFrom v; manifests = manifestsFrom v; holds = holdsFrom v }
+ledgerFrom v = cond (isLedger v) (ledgerSaid v) noManifest
+
+-- the next ledger's numbers, laid over those that it came from; numbers that no ledger can be stay as they are
+unfoldable pub laidBack : Ledger → List ℕ → List ℕ
+laidBack l v = cond (isLedger v) (over (ledgerNumbers l) v) v

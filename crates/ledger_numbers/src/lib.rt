@@ -3,8 +3,9 @@ ghost use mathlib.Core.Path.{_≡_};
 ghost use Prim.Native.Nat.{_*_, _≤_};
 ghost use lib.ListN.{length};
 ghost use Rattle.rules.specs.Limits.{limits, manifestLimit};
+ghost use Rattle.rules.specs.Lists.{conj};
 ghost use Rattle.fields.specs.Fields.{over};
-ghost use Rattle.ledger_numbers.specs.Numbers.{roleNumber, flag, flat, each, objectSize, manifestSize, holdSize, roleFrom, objectFrom, manifestFrom, holdFrom, ledgerFrom, objectNumbers, manifestNumbers, holdNumbers, ledgerNumbers, ledgerSize};
+ghost use Rattle.ledger_numbers.specs.Numbers.{roleNumber, flag, flat, each, objectSize, manifestSize, holdSize, roleFrom, objectFrom, manifestFrom, holdFrom, canBe, isLedger, ledgerSaid, noManifest, ledgerFrom, laidBack, objectNumbers, manifestNumbers, holdNumbers, ledgerNumbers, ledgerSize};
 use holds::Holds;
 use ledger::Ledger;
 use manifests::KeptManifest;
@@ -37,6 +38,9 @@ pub const MANIFESTS_AT: usize = KEPT_AT + 1;
 pub const HELD_AT: usize = MANIFESTS_AT + Ledger::MANIFESTS * MANIFEST;
 
 pub const HOLDS_AT: usize = HELD_AT + 1;
+
+// The largest number of 16 bits, which a currency has.
+const LARGEST_CURRENCY: u64 = 65535;
 
 // How many numbers a ledger has.
 pub const LEDGER: usize = HOLDS_AT + Ledger::HOLDS * HOLD;
@@ -183,10 +187,10 @@ fn hold_items(v: &[u64]) -> [Hold; Ledger::HOLDS]
     items
 }
 
-// The ledger that the numbers say, of any value.
-pub fn ledger_from(v: &[u64]) -> Ledger
+// What numbers say that a ledger can be.
+fn ledger_said(v: &[u64]) -> Ledger
     requires { ⌜ ledgerSize ≤ length (now v) ⌝ }
-    ensures { λ r. ⌜ r ≡ ledgerFrom (now (v .entry)) ⌝ }
+    ensures { λ r. ⌜ r ≡ ledgerSaid (now (v .entry)) ⌝ }
 {
     let mut occupancy = [0u64; WORDS];
     fill(&v[OCCUPANCY_AT..OBJECTS_AT], &mut occupancy);
@@ -216,6 +220,68 @@ pub fn ledger_from(v: &[u64]) -> Ledger
         manifests,
         holds,
     }
+}
+
+// Whether a place can be an object's: its role and its mark are 0 or 1, and its currency has 16 bits.
+fn can_be(v: &[u64]) -> bool
+    requires { ⌜ objectSize ≤ length (now v) ⌝ }
+    ensures { λ r. ⌜ r ≡ canBe (now (v .entry)) ⌝ }
+{
+    if 1 < v[1] {
+        return false;
+    }
+    if LARGEST_CURRENCY < v[3] {
+        return false;
+    }
+    if 1 < v[4] {
+        return false;
+    }
+    true
+}
+
+fn places_can_be(v: &[u64]) -> bool
+    requires { ⌜ limits .places * objectSize ≤ length (now v) ⌝ }
+    ensures { λ r. ⌜ r ≡ conj (each canBe objectSize (limits .places) (now (v .entry))) ⌝ }
+{
+    let mut i: usize = 0;
+    while i < Ledger::PLACES {
+        if !can_be(&v[OBJECT * i..]) {
+            return false;
+        }
+        i += 1;
+    }
+    true
+}
+
+// Whether the numbers can be a ledger's.
+fn is_ledger(v: &[u64]) -> bool
+    requires { ⌜ ledgerSize ≤ length (now v) ⌝ }
+    ensures { λ r. ⌜ r ≡ isLedger (now (v .entry)) ⌝ }
+{
+    places_can_be(&v[OBJECTS_AT..])
+}
+
+// The fresh ledger without its manifest, which is not sound.
+fn no_manifest() -> Ledger
+    ensures { λ r. ⌜ r ≡ noManifest ⌝ }
+{
+    let mut ledger = Ledger::fresh();
+    let mut manifests = ledger.manifests;
+    manifests.count = 0;
+    ledger.manifests = manifests;
+    ledger
+}
+
+// The ledger that the numbers say. Numbers that no ledger can be are never cut to what it can: they are a ledger that is not
+// sound.
+pub fn ledger_from(v: &[u64]) -> Ledger
+    requires { ⌜ ledgerSize ≤ length (now v) ⌝ }
+    ensures { λ r. ⌜ r ≡ ledgerFrom (now (v .entry)) ⌝ }
+{
+    if !is_ledger(v) {
+        return no_manifest();
+    }
+    ledger_said(v)
 }
 
 // Out
@@ -317,4 +383,14 @@ pub fn put_ledger(ledger: Ledger, out: &mut [u64])
     out[HELD_AT] = holds.count as u64;
     let rest = holds.items;
     put_holds(rest, &mut out[HOLDS_AT..LEDGER]);
+}
+
+// Lays the next ledger's numbers over those that it came from; numbers that no ledger can be stay as they are.
+pub fn lay_back(ledger: Ledger, numbers: &mut [u64])
+    requires { ⌜ ledgerSize ≤ length (now numbers) ⌝ }
+    ensures { λ _. ⌜ now (numbers .exit) ≡ laidBack ledger (now (numbers .entry)) ⌝ }
+{
+    if is_ledger(numbers) {
+        put_ledger(ledger, &mut numbers[0..LEDGER]);
+    }
 }

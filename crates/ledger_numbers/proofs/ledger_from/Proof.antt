@@ -1,62 +1,25 @@
--- `ledger_from` meets its contract: each part is read from its place on.
--- Assumes nothing.
-use mathlib.Core.Path.{_≡_, _∙_, ap}
-use mathlib.Core.List.{List}
-use Prim.Native.Nat.{ℕ, _-_}
-use native.Mathlib.Omega.{arith}
-use lib.ListN.{length, take, drop, replicate, length-drop}
-use lib.Seq.{take-all, length-take-le}
+-- `ledger_from` meets its contract: the cases are those of the definition. Assumes nothing.
+use mathlib.Core.Path.{sym, _∙_}
+use borrow.Author.Tests.{not-true, not-false}
+use Rattle.ledger_numbers.specs.Numbers.{ledgerFrom}
 use borrow.Author.Needs.{needs}
-use Rattle.rules.specs.Limits.{limits, manifestLimit, wordCount}
-use Rattle.fields.specs.Fields.{over}
-use Rattle.ledger_numbers.specs.Numbers.{objectSize, manifestSize, holdSize, occupancyAt, objectsAt, manifestsAt, holdsAt, each, objectFrom, manifestFrom, holdFrom, ledgerFrom}
-use Rattle.ledger_numbers.proofs.Over.{over-all}
 use Rattle.ledger_numbers.proofs.ledger_from.Statement.{statement}
 use Rattle.ledger_numbers.proofs.ledger_from.Tie as tie
 
--- a part from its place on
-from : (a : ℕ) (v : List ℕ) → take (length v - a) (drop a v) ≡ drop a v
-from a v = take-all (length v - a) (drop a v) (omega (arith, length-drop a v))
-
 returns : tie.Need-returns
 unfolding ledgerFrom
-returns c =
-    let held = c .before .before in
-    let kept = held .before .before .before in
-    let placed = kept .before .before .before in
-    let filled = placed .before .before .before in
-    let v = filled .before .before .before .before .args .v .now in
-    let many : length (take wordCount (drop occupancyAt v)) ≡ wordCount = length-take-le wordCount (drop occupancyAt v) (omega (arith, length-drop occupancyAt v)) in
-    let read : filled .fill .last .1 .0 ≡ over (take wordCount (drop occupancyAt v)) (replicate wordCount 0) = filled .fill .ensures in
-    let words = read ∙ over-all (take wordCount (drop occupancyAt v)) (replicate wordCount 0) (omega (arith, many)) in
-    let places = placed .object-items .ensures ∙ ap (λ (l : List ℕ). each objectFrom objectSize (limits .places) l) (from objectsAt v) in
-    let all = kept .manifest-items .ensures ∙ ap (λ (l : List ℕ). each manifestFrom manifestSize (manifestLimit limits) l) (from manifestsAt v) in
-    let rest = held .hold-items .ensures ∙ ap (λ (l : List ℕ). each holdFrom holdSize (limits .holds) l) (from holdsAt v) in
-    rw (words, places, all, rest)
+returns c = rw (sym (c .before .before .is-ledger .ensures) ∙ not-true _ (c .before .if1 .taken)) (c .no-manifest .ensures)
+
+returns-2 : tie.Need-returns-2
+unfolding ledgerFrom
+returns-2 c = rw (sym (c .before .before .is-ledger .ensures) ∙ not-false _ (c .before .if1 .left)) (c .ledger-said .ensures)
 
 pub ledger-from-spec : {M : Type 1} → statement M
 ledger-from-spec =
     tie.close
     (tie.spec
-    (λ c. search needs)
-    (λ c. search needs)
-    (λ c. search needs)
-    (λ c. search needs)
     (λ c κs. search needs)
-    (λ c. search needs)
-    (λ c. search needs)
-    (λ c. search needs)
     (λ c κs. search needs)
-    (λ c. search needs)
-    (λ c. search needs)
-    (λ c. search needs)
-    (λ c. search needs)
+    returns
     (λ c κs. search needs)
-    (λ c. search needs)
-    (λ c. search needs)
-    (λ c. search needs)
-    (λ c. search needs)
-    (λ c κs. search needs)
-    (λ c. search needs)
-    (λ c. search needs)
-    returns)
+    returns-2)
