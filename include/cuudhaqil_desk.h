@@ -1,5 +1,5 @@
 /* The sale desk: the calls of target/staticlib/libdesk_exports.a (crates/desk_exports), beside those of cuudhaqil.h and
- * under the same terms. A ledger is its 1,924 numbers, as cuudhaqil_fresh and cuudhaqil_step of cuudhaqil.h give them. A
+ * under the same terms. A ledger is its 1,924 numbers, as cuudhaqil_fresh and cuudhaqil_step of cuudhaqil.h give them; others are not sound: 1. A
  * currency above 65,535 is taken as 65,535, which no sheet has. */
 #ifndef CUUDHAQIL_DESK_H
 #define CUUDHAQIL_DESK_H
@@ -29,7 +29,7 @@ uint64_t cuudhaqil_write_sheet(const uint64_t *numbers, size_t numbers_len, uint
 /* A sale on any ledger: the sheet's bytes, and the time, currency, hold and fare that are asked.
  * 0: sale[0] is the code and sale[1] the charge. Code 0: charged, and ledger is the one after the look. Any other code:
  *    refused, with 2 for a malformed sheet or a fare above 1,000,000, else with the look's number, else with 30 for a
- *    sheet of another object or currency; the charge is 0, and the ledger's numbers are as they were read. Elements
+ *    sheet of another object or currency; the charge is 0, and the ledger's numbers stay as they are. Elements
  *    beyond these stay.
  * 3: ledger has fewer than 1,924 elements or sale fewer than 2; this goes first, and all stay. */
 uint64_t cuudhaqil_sell(uint64_t *ledger, size_t ledger_len, uint64_t time, const uint8_t *sheet, size_t sheet_len,

@@ -37,7 +37,10 @@ extern "C" {
         out: *mut u8,
         room: usize,
     ) -> u64;
+    fn cuudhaqil_version() -> u64;
     fn cuudhaqil_fresh(numbers: *mut u64, count: usize) -> u64;
+    fn cuudhaqil_is_sound(ledger: *const u64, size: usize) -> u64;
+    fn cuudhaqil_current(ledger: *const u64, size: usize, numbers: *mut u64, count: usize) -> u64;
     fn cuudhaqil_step(
         ledger: *mut u64,
         size: usize,
@@ -150,6 +153,22 @@ pub fn write_verdict(numbers: &[u64], list: &[u64], out: &mut [u8]) -> u64 {
 pub fn fresh(numbers: &mut [u64]) -> u64 {
     // SAFETY: the pointer comes from a slice of the length given.
     unsafe { cuudhaqil_fresh(numbers.as_mut_ptr(), numbers.len()) }
+}
+
+pub fn version() -> u64 {
+    // SAFETY: nothing is lent.
+    unsafe { cuudhaqil_version() }
+}
+
+pub fn is_sound(ledger: &[u64]) -> u64 {
+    // SAFETY: the pointer comes from a slice of the length given.
+    unsafe { cuudhaqil_is_sound(ledger.as_ptr(), ledger.len()) }
+}
+
+pub fn current(ledger: &[u64], numbers: &mut [u64]) -> u64 {
+    let (size, count) = (ledger.len(), numbers.len());
+    // SAFETY: both pointers come from slices of the lengths given.
+    unsafe { cuudhaqil_current(ledger.as_ptr(), size, numbers.as_mut_ptr(), count) }
 }
 
 pub fn step(

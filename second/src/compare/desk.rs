@@ -165,8 +165,8 @@ impl Left {
 }
 
 /// The ledger behind the depot's week, at clock 22, whose list has object 2 of
-/// currency 756 and object 5 of 978; the same with a mark that is cut; and one
-/// that is not sound.
+/// currency 756 and object 5 of 978; the same with marks that no ledger has; and
+/// another that is not sound.
 fn week() -> [Vec<u64>; 3] {
     let week = run(&Ledger::fresh(), &depot::trace(), usize::MAX).ledger;
     let numbers = ledger_numbers(&raw::raw(&week));

@@ -14,7 +14,7 @@ use crate::ledger::{Ledger, Manifest};
 use crate::limits::{HOLDS, MANIFESTS, NAMES, PLACES, WORD, WORDS};
 use crate::random::Random;
 use crate::raw::{self, Raw, RawHold, RawManifest, RawObject};
-use crate::records::{Kind, Step};
+use crate::records::{Kind, Step, Verdict};
 
 /// The number of COLLECT among the kinds.
 const COLLECT: u64 = 9;
@@ -30,19 +30,21 @@ const MANIFESTS_AT: usize = OBJECTS_AT + PLACES * OBJECT + 1;
 const HOLDS_AT: usize = MANIFESTS_AT + MANIFESTS * MANIFEST + 1;
 /// How many numbers a ledger has.
 pub const LEDGER: usize = HOLDS_AT + HOLDS * HOLD;
+/// How many numbers the current manifest is told in.
+pub const CURRENT: usize = 3;
 
-/// The ledger that the numbers say. Any number other than 0 is the compactor
-/// or a mark, and a currency is its last 16 bits: so the calls read them.
+/// The ledger that the numbers say, each number as it is: a role of 2 is none,
+/// and 66,514 is no 978.
 pub fn raw_of(numbers: &[u64]) -> Raw {
     let objects = numbers[OBJECTS_AT..MANIFESTS_AT - 1].chunks(OBJECT);
     let manifests = numbers[MANIFESTS_AT..HOLDS_AT - 1].chunks(MANIFEST);
     let holds = numbers[HOLDS_AT..LEDGER].chunks(HOLD);
     let object = |o: &[u64]| RawObject {
         number: o[0],
-        role: u64::from(o[1] != 0),
+        role: o[1],
         epoch: o[2],
-        currency: o[3] & 0xFFFF,
-        named: u64::from(o[4] != 0),
+        currency: o[3],
+        named: o[4],
     };
     let manifest = |m: &[u64]| RawManifest {
         number: m[0],
@@ -96,8 +98,31 @@ pub fn fresh(numbers: &mut [u64]) -> u64 {
     }
 }
 
+/// 0 where the ledger is sound, 1 where it is not; 3 where too few are lent.
+pub fn is_sound(ledger: &[u64]) -> u64 {
+    match ledger.get(..LEDGER) {
+        None => 3,
+        Some(numbers) => u64::from(!raw::sound(&raw_of(numbers))),
+    }
+}
+
+/// 0 with the current manifest's number and both epochs over the start; 1 for a
+/// ledger that is not sound; 3 where too few are lent.
+pub fn current(ledger: &[u64], numbers: &mut [u64]) -> u64 {
+    let (Some(ledger), Some(room)) = (ledger.get(..LEDGER), numbers.get_mut(..CURRENT)) else {
+        return 3;
+    };
+    let Some(ledger) = raw::from_raw(&raw_of(ledger)) else {
+        return 1;
+    };
+    let (number, manifest) = ledger.manifests.last_key_value().expect("a sound ledger keeps one");
+    room.copy_from_slice(&[*number, manifest.writer, manifest.compactor]);
+    0
+}
+
 /// 0 with the next ledger in place, the verdict's numbers and the places of
-/// its list; 2 where the numbers say no kind; 3 where too few are lent.
+/// its list; 3 where too few are lent. Numbers that say no kind are refused as
+/// bytes that are no step; a refusal leaves the ledger's numbers as they are.
 pub fn step(
     ledger: &mut [u64],
     numbers: &[u64],
@@ -113,35 +138,49 @@ pub fn step(
     if !lent {
         return 3;
     }
-    let Some(kind) = kind_of(numbers) else {
-        return 2;
+    let before = raw_of(ledger);
+    let answer = match kind_of(numbers) {
+        None => Verdict::Refused(if raw::sound(&before) { 2 } else { 1 }),
+        Some(kind) => {
+            // A list that no record can say is malformed, as a list with 0 is.
+            let list = list_of(numbers[10], &list[..NAMES]).unwrap_or(vec![0]);
+            let (answer, next) = raw::step(&before, &Step { time: numbers[1], kind, list });
+            ledger[..LEDGER].copy_from_slice(&ledger_numbers(&next));
+            answer
+        }
     };
-    // A list that no record can say is malformed, as a list with 0 is.
-    let list = list_of(numbers[10], &list[..NAMES]).unwrap_or(vec![0]);
-    let (answer, next) = raw::step(&raw_of(ledger), &Step { time: numbers[1], kind, list });
-    ledger[..LEDGER].copy_from_slice(&ledger_numbers(&next));
     put_verdict(answer, verdict, objects);
     0
 }
 
 pub type FreshCall = fn(&mut [u64]) -> u64;
 pub type StepCall = fn(&mut [u64], &[u64], &[u64], &mut [u64], &mut [u64]) -> u64;
+pub type SoundCall = fn(&[u64]) -> u64;
+pub type CurrentCall = fn(&[u64], &mut [u64]) -> u64;
 
 /// One side's calls.
 #[derive(Clone, Copy)]
 pub struct Calls {
     pub fresh: FreshCall,
     pub step: StepCall,
+    pub is_sound: SoundCall,
+    pub current: CurrentCall,
 }
 
-pub const SECOND: Calls = Calls { fresh, step };
+pub const SECOND: Calls = Calls { fresh, step, is_sound, current };
 
 /// What two sides were asked, and how often.
 #[derive(Debug, Default)]
 pub struct Counts {
     pub steps: usize,
-    /// 0 done, 2 no kind, 3 too short.
+    /// 0 done, 3 too short.
     pub answers: Answers,
+    /// By what the ledger before a step is told to be: 0 sound, 1 not, 3 too
+    /// short.
+    pub soundness: Answers,
+    /// Steps on numbers that no ledger can be, and that, cut to what it can,
+    /// would be a sound one.
+    pub widened: usize,
     /// By the row of the table, 0 for accepted.
     pub verdicts: Answers,
     /// Accepted steps by kind, FENCE 0 to COLLECT 9.
@@ -162,8 +201,10 @@ impl Counts {
     pub fn add(&mut self, other: Counts) {
         self.steps += other.steps;
         self.damaged_sound += other.damaged_sound;
+        self.widened += other.widened;
         let pairs = [
             (&mut self.answers, other.answers),
+            (&mut self.soundness, other.soundness),
             (&mut self.verdicts, other.verdicts),
             (&mut self.accepted, other.accepted),
             (&mut self.stored, other.stored),
@@ -311,6 +352,8 @@ pub fn compare_sequence(
             counts.add_damage(&numbers, &before);
         }
         let step = asked(random, &guide.next(&ledger), course);
+        count(&mut counts.soundness, compare_told(random, &before, first, second)?);
+        counts.widened += usize::from(is_widened(&before));
         let left = compare_step(random, &before, &step, first, second)?;
         counts.steps += 1;
         count(&mut counts.answers, left.answer);
@@ -349,6 +392,48 @@ fn compare_fresh(random: &mut Random, first: Calls, second: Calls) -> Result<Vec
         }
     }
     unreachable!("the last size is the ledger's")
+}
+
+/// Whether the ledger is sound, and what is current, at times with too few or
+/// too many lent.
+fn compare_told(
+    random: &mut Random,
+    ledger: &[u64],
+    first: Calls,
+    second: Calls,
+) -> Result<u64, String> {
+    let (pattern, mut ledger, mut room) = (random.any(), ledger.to_vec(), CURRENT);
+    if random.once_in(40) {
+        ledger.resize(lent(random, LEDGER), pattern);
+        room = lent(random, CURRENT);
+    }
+    let call = |side: Calls| {
+        let mut numbers = vec![pattern; room + 2 * MARGIN];
+        let answer = (side.current)(&ledger, &mut numbers[MARGIN..MARGIN + room]);
+        ((side.is_sound)(&ledger), answer, numbers)
+    };
+    let (one, other) = (call(first), call(second));
+    if one == other {
+        return Ok(one.0);
+    }
+    Err(format!("soundness and current: first {one:?}, second {other:?}\nledger {ledger:?}"))
+}
+
+/// Whether some role, mark or currency is wider than it can be, and a reader
+/// that cuts them would find a sound ledger.
+fn is_widened(numbers: &[u64]) -> bool {
+    let mut cut = numbers.to_vec();
+    cut_objects(&mut cut);
+    cut != numbers && raw::sound(&raw_of(&cut))
+}
+
+/// Roles and marks as whether they are 0, and currencies as their last 16 bits:
+/// what a careless reader makes of them.
+pub(crate) fn cut_objects(ledger: &mut [u64]) {
+    for object in ledger[OBJECTS_AT..MANIFESTS_AT - 1].chunks_mut(OBJECT) {
+        (object[1], object[4]) = (u64::from(object[1] != 0), u64::from(object[4] != 0));
+        object[3] &= 0xFFFF;
+    }
 }
 
 /// One step, at times with too few or too many lent.
@@ -418,7 +503,7 @@ pub fn high(random: &mut Random) -> Ledger {
 pub fn damage(random: &mut Random, numbers: &mut [u64]) {
     let place = damaged_place(random, numbers);
     let other = damaged_place(random, numbers);
-    match random.below(8) {
+    match random.below(10) {
         0 => numbers[place] ^= 1 << random.below(u64::BITS.into()),
         1 => numbers[place] ^= 1 << random.below(4),
         2 => numbers.swap(place, other),
@@ -426,7 +511,24 @@ pub fn damage(random: &mut Random, numbers: &mut [u64]) {
         4 => numbers[place] = numbers[place].wrapping_add(1),
         5 => numbers[place] = numbers[place].wrapping_sub(1),
         6 => numbers[place] = replacement(random, numbers[0], numbers[1]),
-        _ => swap_places(random, numbers),
+        7 => swap_places(random, numbers),
+        _ => widen(random, numbers),
+    }
+}
+
+/// Makes an object's role, mark or currency one that no object can have; its
+/// last bits, or whether it is 0, stay.
+fn widen(random: &mut Random, numbers: &mut [u64]) {
+    let taken = |place: &usize| numbers[OBJECTS_AT + place * OBJECT] != 0;
+    let places: Vec<usize> = (0..PLACES).filter(taken).collect();
+    if places.is_empty() {
+        return;
+    }
+    let object = OBJECTS_AT + random.pick(&places) * OBJECT;
+    match random.below(4) {
+        0 => numbers[object + 1] = numbers[object + 1].wrapping_mul(1 + random.below(300)),
+        1 => numbers[object + 4] = numbers[object + 4].wrapping_mul(1 + random.below(300)),
+        _ => numbers[object + 3] = numbers[object + 3].wrapping_add((1 + random.any()) << 16),
     }
 }
 

@@ -496,7 +496,7 @@ fn fixed() -> Vec<Short> {
     let unknown = vec![0xEE, 0, 0];
     let mut dead = raw::raw(&all_dead());
     let full = Some(ledger_numbers(&dead));
-    // A mark above 1 and a currency of more than 16 bits, which are cut.
+    // A mark above 1 and a currency of more than 16 bits, which no ledger has.
     (dead.objects[0].named, dead.objects[0].currency) = (7, 978 + (1 << 16));
     let cut = Some(ledger_numbers(&dead));
     let mut unsound = raw::raw(&Ledger::fresh());

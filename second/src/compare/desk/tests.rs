@@ -104,7 +104,7 @@ fn sheets_reach_every_answer() {
 fn slices_of_every_length_are_tried() {
     let counts = sales::compare_lent(&mut Random::new(7), SECOND, SECOND).unwrap();
     given(&counts.answers, &[DONE, SHORT], 100);
-    given(&counts.codes, &[0, 1, 2, 3, 15, 16, 30], 10);
+    given(&counts.codes, &[0, 1, 2, 3, 15, 16, 30], 9);
     let counts = cards::compare_lent(&mut Random::new(8), SECOND, SECOND).unwrap();
     given(&counts.answers, &[DONE, MALFORMED, SHORT], 100);
 }
@@ -124,8 +124,8 @@ fn a_wide_currency_is_none() {
     assert_eq!(sale, [0, 8]);
 }
 
-/// A mark above 1 is cut also where the call is refused, but not beside 3, and
-/// elements beyond stay.
+/// Marks that no ledger has are not cut: the look is refused with 1, and they
+/// stay as they are. Elements beyond stay.
 #[test]
 fn the_calls_keep_their_convention() {
     let [start, marked, _] = week();
@@ -134,16 +134,20 @@ fn the_calls_keep_their_convention() {
     assert_eq!(sell(&mut numbers, 22, &[], 978, 0, 0, &mut [0]), SHORT);
     assert_eq!(fill_card(&mut numbers, 22, 0, 0, &mut [0; (ENTRIES + 1) * ENTRY]), SHORT);
     assert_eq!(fill_card(&mut numbers[1..], 22, 0, 0, &mut []), SHORT);
-    assert_eq!(numbers, marked);
-    let mut sale = [7; SALE + 1];
+    let (mut sale, mut sheet) = ([7; SALE + 1], [0; 41]);
     assert_eq!(sell(&mut numbers, 22, &[], 978, 0, 0, &mut sale), DONE);
-    assert_eq!((sale, &numbers), ([2, 0, 7], &start));
+    assert_eq!(sale, [2, 0, 7]);
+    assert_eq!(write_sheet(&[5, 978, 1, 1], &mut sheet), 41);
+    assert_eq!(sell(&mut numbers, 22, &sheet, 978, 0, 8, &mut sale), DONE);
+    assert_eq!(sale, [1, 0, 7]);
+    assert_eq!(fill_card(&mut numbers, 22, 0, 1, &mut [978, 7, 7]), DONE);
+    assert_eq!(numbers, marked);
 
-    let mut numbers = [&marked[..], &[7]].concat();
+    let mut numbers = [&start[..], &[7]].concat();
     let mut card = [978, 7, 7, 985, 7, 7, 978, 7];
     assert_eq!(fill_card(&mut numbers, 23, 0, 3, &mut card), MALFORMED);
     assert_eq!(card, [978, 7, 7, 985, 7, 7, 978, 7]);
-    assert_eq!(numbers, [&marked[..], &[7]].concat());
+    assert_eq!(numbers, [&start[..], &[7]].concat());
     assert_eq!(fill_card(&mut numbers, 23, 0, 2, &mut card), DONE);
     assert_eq!(card, [978, 0, 5, 985, 16, 0, 978, 7]);
     assert_eq!((numbers[0], numbers[LEDGER]), (23, 7));

@@ -24,13 +24,9 @@ fn a_ledger_is_its_numbers() {
         assert_eq!(raw_of(&numbers), raw);
         assert_eq!(raw::from_raw(&raw), Some(ledger));
     }
-    // Every number has a place of its own; roles, marks and currencies fit.
-    let numbers: Vec<u64> = (0..LEDGER as u64).map(|n| n + 2).collect();
-    let mut expected = numbers.clone();
-    for object in expected[OBJECTS_AT..MANIFESTS_AT - 1].chunks_mut(OBJECT) {
-        (object[1], object[4]) = (1, 1);
-    }
-    assert_eq!(ledger_numbers(&raw_of(&numbers)), expected);
+    // Every number has a place of its own, and none is cut.
+    let numbers: Vec<u64> = (0..LEDGER as u64).map(|n| u64::MAX - n).collect();
+    assert_eq!(ledger_numbers(&raw_of(&numbers)), numbers);
 }
 
 #[test]
@@ -38,7 +34,7 @@ fn one_side_agrees_with_itself() {
     for course in [Course::Fresh, Course::Stocked, Course::High, Course::Damaged] {
         let counts = run(course, SECOND).unwrap();
         assert_eq!(counts.steps, 10_000);
-        assert!(counts.answers.len() == 3, "{counts:?}");
+        assert!(counts.answers.len() == 2, "{counts:?}");
     }
 }
 
@@ -51,7 +47,7 @@ fn stored(ledger: &[u64]) -> u32 {
 #[track_caller]
 fn wrong_step(step: StepCall, told: &str) {
     for course in [Course::Fresh, Course::Stocked] {
-        let error = run(course, Calls { fresh, step }).expect_err("the step is wrong");
+        let error = run(course, Calls { step, ..SECOND }).expect_err("the step is wrong");
         assert!(error.contains(told), "{error}");
     }
 }
@@ -130,7 +126,7 @@ fn differences_are_found() {
         }
         answer
     };
-    let error = run(Course::Fresh, Calls { fresh, step: late }).unwrap_err();
+    let error = run(Course::Fresh, Calls { step: late, ..SECOND }).unwrap_err();
     let told = format!("ledger[{}] first 1, second 0", LEDGER - 1);
     assert!(error.contains(&told), "{error}");
     let unjudged: StepCall = |ledger, numbers, list, verdict, objects| {
@@ -142,7 +138,48 @@ fn differences_are_found() {
         }
         answer
     };
-    run(Course::Fresh, Calls { fresh, step: unjudged }).unwrap();
-    let error = run(Course::Damaged, Calls { fresh, step: unjudged }).unwrap_err();
+    run(Course::Fresh, Calls { step: unjudged, ..SECOND }).unwrap();
+    let error = run(Course::Damaged, Calls { step: unjudged, ..SECOND }).unwrap_err();
     assert!(error.contains("verdict[1] first 3, second 1"), "{error}");
+}
+
+#[test]
+fn numbers_that_are_cut_are_found() {
+    let cutting: StepCall = |ledger, numbers, list, verdict, objects| {
+        if ledger.len() >= LEDGER {
+            cut_objects(ledger);
+        }
+        step(ledger, numbers, list, verdict, objects)
+    };
+    let error = run(Course::Damaged, Calls { step: cutting, ..SECOND }).unwrap_err();
+    assert!(error.contains("answers 0 and 0; ledger["), "{error}");
+    let sound: SoundCall = |ledger| {
+        let mut ledger = ledger.to_vec();
+        if ledger.len() >= LEDGER {
+            cut_objects(&mut ledger);
+        }
+        is_sound(&ledger)
+    };
+    let error = run(Course::Damaged, Calls { is_sound: sound, ..SECOND }).unwrap_err();
+    assert!(error.contains("soundness and current"), "{error}");
+    // 2 goes before 1.
+    let unread: StepCall = |ledger, numbers, list, verdict, objects| {
+        let answer = step(ledger, numbers, list, verdict, objects);
+        if answer == 0 && kind_of(numbers).is_none() {
+            verdict[1] = 2;
+        }
+        answer
+    };
+    let error = run(Course::Damaged, Calls { step: unread, ..SECOND }).unwrap_err();
+    assert!(error.contains("verdict[1] first 2, second 1"), "{error}");
+    // The epochs the other way round.
+    let turned: CurrentCall = |ledger, numbers| {
+        let answer = current(ledger, numbers);
+        if answer == 0 {
+            numbers.swap(1, 2);
+        }
+        answer
+    };
+    let error = run(Course::Fresh, Calls { current: turned, ..SECOND }).unwrap_err();
+    assert!(error.contains("soundness and current"), "{error}");
 }

@@ -2,6 +2,7 @@
 //! one in one respect only.
 
 use super::*;
+use crate::compare::ledgers::cut_objects;
 use crate::limits::WORDS;
 use crate::records::{read_verdict, Verdict};
 
@@ -213,29 +214,29 @@ fn wrong_ledgers_are_found() {
     ];
     wrong_run_on(Course::Pieces, kept[0], "answers 2 and 2; ledger[");
     wrong_run_on(Course::DamagedTraces, kept[1], "answers 1 and 1; ledger[");
-    // A ledger that no step changed is not laid down again, so roles above 1
-    // stay.
+    // Roles and marks are cut to 0 and 1, currencies to 16 bits.
     wrong_run_on(
         Course::DamagedLedgers,
         |ledger, trace, out, counts| {
-            let before = ledger.to_vec();
-            let answer = run_on(ledger, trace, out, counts);
-            if answer != SHORT && raw_of(&before) == raw_of(ledger) {
-                ledger.copy_from_slice(&before);
+            if ledger.len() >= LEDGER {
+                cut_objects(ledger);
             }
-            answer
+            run_on(ledger, trace, out, counts)
         },
         "; ledger[",
     );
-    // An empty trace leaves the numbers uncut.
-    let uncut: RunOnCall = |ledger, trace, out, counts| match trace {
-        [] if ledger.len() >= LEDGER => run(trace, out, counts),
-        _ => run_on(ledger, trace, out, counts),
+    // An empty trace cuts them.
+    let cutting: RunOnCall = |ledger, trace, out, counts| {
+        let answer = run_on(ledger, trace, out, counts);
+        if answer != SHORT && trace.is_empty() {
+            cut_objects(ledger);
+        }
+        answer
     };
-    let error = rooms(Calls { run_on: uncut, ..SECOND }).unwrap_err();
+    let error = rooms(Calls { run_on: cutting, ..SECOND }).unwrap_err();
     // The mark of the object at place 0, behind the clock, the highest number
     // collected and the words.
-    let told = format!("ledger[{}] first 7, second 1", 2 + WORDS + 4);
+    let told = format!("ledger[{}] first 1, second 7", 2 + WORDS + 4);
     assert!(error.contains(&told), "{error}");
     // The first record on a ledger that is not sound is answered 3.
     wrong_run_on(

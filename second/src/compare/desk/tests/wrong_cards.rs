@@ -1,6 +1,7 @@
 //! Wrong route cards.
 
 use super::*;
+use crate::compare::ledgers::cut_objects;
 
 /// The error of a wrong card.
 #[track_caller]
@@ -150,18 +151,21 @@ fn wrong_ledgers_between_looks_are_found() {
     }
 }
 
-/// With count 0 roles above 1 and wide currencies are cut; with 2 they stay.
+/// Roles above 1 and wide currencies stay, whatever the count.
 #[test]
-fn a_ledger_not_laid_down_as_read_is_found() {
-    let none: FillCall = |ledger, time, hold, count, card| match count {
-        0 => fill_card(&mut ledger.to_vec(), time, hold, count, card),
-        _ => fill_card(ledger, time, hold, count, card),
+fn numbers_that_are_cut_are_found() {
+    let none: FillCall = |ledger, time, hold, count, card| {
+        let answer = fill_card(ledger, time, hold, count, card);
+        if answer == DONE && count == 0 {
+            cut_objects(ledger);
+        }
+        answer
     };
     found(Course::Damaged, none, "answers 0 and 0; ledger[");
     let above: FillCall = |ledger, time, hold, count, card| {
         let answer = fill_card(ledger, time, hold, count, card);
         if answer == MALFORMED {
-            fill_card(ledger, time, hold, 0, card);
+            cut_objects(ledger);
         }
         answer
     };
