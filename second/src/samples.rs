@@ -1,5 +1,5 @@
-//! The stored traces: the examples', and the inputs of the program `judge`
-//! with what it prints; and likewise the listings of `list_bucket`.
+//! The stored traces and listings: the examples', and the inputs of the
+//! programs `judge` and `list_bucket` with what they print of each.
 
 use crate::depot;
 use crate::generate::guided::Guide;
@@ -13,6 +13,9 @@ use crate::run::{judge, LONGEST_TRACE};
 /// A file's name and contents.
 pub type File = (String, Vec<u8>);
 
+/// A stored input's name and bytes.
+pub type Input = (&'static str, Vec<u8>);
+
 /// With it the longest trace is given every verdict but 1, and has the longest
 /// step and the longest verdict.
 const SEED: u64 = 20_240_860;
@@ -24,48 +27,61 @@ pub fn examples() -> Vec<File> {
     ]
 }
 
-/// In the folder of each program crate its input and what it prints.
-pub fn judged() -> Vec<File> {
+/// In the folder of each program's crate its input and what it prints.
+pub fn crates() -> Vec<File> {
+    let (trace, listing) = (depot::trace(), bucket().concat());
+    vec![
+        ("judge/stdout".to_string(), judge(&trace).into_bytes()),
+        ("judge/stdin".to_string(), trace),
+        ("list_bucket/stdout".to_string(), list_bucket(&listing).into_bytes()),
+        ("list_bucket/stdin".to_string(), listing),
+    ]
+}
+
+/// In a folder for each program its further inputs, and what it prints of each.
+pub fn programs() -> Vec<File> {
+    let mut files = stored("judge", further_traces(), judge);
+    files.extend(stored("list_bucket", further_listings(), list_bucket));
+    files
+}
+
+fn stored(program: &str, inputs: Vec<Input>, prints: fn(&[u8]) -> String) -> Vec<File> {
+    let mut files = Vec::new();
+    for (name, input) in inputs {
+        files.push((format!("{program}/{name}.out"), prints(&input).into_bytes()));
+        files.push((format!("{program}/{name}.in"), input));
+    }
+    files
+}
+
+fn further_traces() -> Vec<Input> {
     let longest = longest();
     let too_long = [&longest[..], &[0]].concat();
-    let inputs = [
-        ("judge", depot::trace()),
-        ("judge_torn", torn()),
-        ("judge_longest", longest),
-        ("judge_too_long", too_long),
-    ];
-    let mut files: Vec<File> = vec![("judge_empty/stdout".to_string(), judge(&[]).into_bytes())];
-    for (crate_name, input) in inputs {
-        files.push((format!("{crate_name}/stdout"), judge(&input).into_bytes()));
-        files.push((format!("{crate_name}/stdin"), input));
-    }
-    files
+    vec![
+        ("empty", Vec::new()),
+        ("accepted", accepted()),
+        ("torn", torn()),
+        ("longest", longest),
+        ("too_long", too_long),
+    ]
 }
 
-/// In the folder of each program crate its listing and what it prints.
-pub fn listed() -> Vec<File> {
-    let mut files = Vec::new();
-    for (crate_name, input) in listings() {
-        files.push((format!("{crate_name}/stdout"), list_bucket(&input).into_bytes()));
-        // Where nothing is stored, nothing is read.
-        if !input.is_empty() {
-            files.push((format!("{crate_name}/stdin"), input));
-        }
-    }
-    files
-}
-
-/// The program crates' listings.
-pub fn listings() -> Vec<(&'static str, Vec<u8>)> {
+fn further_listings() -> Vec<Input> {
     let longest = longest_listing();
     let too_long = [&longest[..], b"\n"].concat();
     vec![
-        ("list_bucket", bucket().concat()),
-        ("list_bucket_empty", Vec::new()),
-        ("list_bucket_bad", bad_bucket().concat()),
-        ("list_bucket_longest", longest),
-        ("list_bucket_too_long", too_long),
+        ("empty", Vec::new()),
+        ("bad", bad_bucket().concat()),
+        ("longest", longest),
+        ("too_long", too_long),
     ]
+}
+
+/// All inputs of `list_bucket`.
+pub fn listings() -> Vec<Input> {
+    let mut all = vec![("whole", bucket().concat())];
+    all.extend(further_listings());
+    all
 }
 
 fn line(name: Name) -> Vec<u8> {
@@ -102,16 +118,29 @@ fn longest_listing() -> Vec<u8> {
     listing
 }
 
-/// The first five records of the week, and all but one byte of the sixth.
-fn torn() -> Vec<u8> {
+/// The first records of the week, as many as asked.
+fn first_records(count: usize) -> Vec<u8> {
     let mut trace = depot::trace();
     let mut end = 0;
-    for _ in 0..6 {
+    for _ in 0..count {
         if let Next::Record(length) = next_record(&trace[end..]) {
             end += length;
         }
     }
-    trace.truncate(end - 1);
+    trace.truncate(end);
+    trace
+}
+
+/// The four records before the first that is refused.
+fn accepted() -> Vec<u8> {
+    first_records(4)
+}
+
+/// The first five records, one of them refused, and all but one byte of the
+/// sixth.
+fn torn() -> Vec<u8> {
+    let mut trace = first_records(6);
+    trace.pop();
     trace
 }
 
@@ -175,16 +204,17 @@ mod tests {
     }
 
     #[test]
-    fn the_program_prints_each_code_and_the_bytes_unread() {
-        let files = judged();
-        let printed = |name: &str| text(&files, name);
+    fn judge_prints_each_code_and_the_bytes_unread() {
         let codes: Vec<String> =
             depot::week().iter().map(|(_, verdict)| format!("{}\n", verdict.code())).collect();
-        assert_eq!(printed("judge/stdout"), codes.concat() + "rest 0\n");
-        assert_eq!(printed("judge_torn/stdout"), "0\n0\n0\n0\n16\nrest 46\n");
-        assert_eq!(printed("judge_empty/stdout"), "rest 0\n");
-        assert_eq!(printed("judge_too_long/stdout"), "too long\n");
-        assert!(printed("judge_longest/stdout").lines().count() > 1_000);
+        assert_eq!(text(&crates(), "judge/stdout"), codes.concat() + "rest 0\n");
+        let files = programs();
+        let printed = |name: &str| text(&files, &format!("judge/{name}.out"));
+        assert_eq!(printed("empty"), "rest 0\n");
+        assert_eq!(printed("accepted"), "0\n0\n0\n0\nrest 0\n");
+        assert_eq!(printed("torn"), "0\n0\n0\n0\n16\nrest 46\n");
+        assert_eq!(printed("too_long"), "too long\n");
+        assert!(printed("longest").lines().count() > 1_000);
     }
 
     #[test]
@@ -194,16 +224,13 @@ mod tests {
     }
 
     #[test]
-    fn the_program_prints_what_a_listing_says() {
-        let files = listed();
-        let printed = |name: &str| text(&files, &format!("{name}/stdout"));
-        assert_eq!(printed("list_bucket"), "manifest 5\nobjects 12\nwhole\n");
-        assert_eq!(printed("list_bucket_empty"), "no manifest\nobjects 0\nwhole\n");
-        assert_eq!(printed("list_bucket_bad"), "manifest 5\nobjects 3\nbad 9\n");
-        assert_eq!(
-            printed("list_bucket_longest"),
-            "manifest 18446744073709551615\nobjects 2237\nwhole\n"
-        );
-        assert_eq!(printed("list_bucket_too_long"), "too long\n");
+    fn list_bucket_prints_what_a_listing_says() {
+        assert_eq!(text(&crates(), "list_bucket/stdout"), "manifest 5\nobjects 12\nwhole\n");
+        let files = programs();
+        let printed = |name: &str| text(&files, &format!("list_bucket/{name}.out"));
+        assert_eq!(printed("empty"), "no manifest\nobjects 0\nwhole\n");
+        assert_eq!(printed("bad"), "manifest 5\nobjects 3\nbad 9\n");
+        assert_eq!(printed("longest"), "manifest 18446744073709551615\nobjects 2237\nwhole\n");
+        assert_eq!(printed("too_long"), "too long\n");
     }
 }

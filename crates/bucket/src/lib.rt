@@ -1,9 +1,11 @@
 // The program `list_bucket` (document 02, request 5): takes standard input as a listing of the store's bucket, and prints
 // what it says.
-use libc::STDIN_FILENO;
 use listing::Listing;
 use listing::Optional;
+use terminal::Input;
+use terminal::ROOM;
 use terminal::say;
+use terminal::say_error;
 use terminal::say_line;
 
 fn say_manifest(manifest: Optional) {
@@ -28,13 +30,20 @@ fn say_listing(said: Listing) {
     say_bad(bad);
 }
 
-// Lists standard input, at most 65,536 bytes; of a longer listing nothing is said.
-pub fn list() {
-    let mut space = io::large_buffer();
-    let n = io::read_full(STDIN_FILENO, &mut space);
-    if n == space.len() && terminal::is_more() {
+// Lists the first n bytes; a listing that fills the room is too long, and nothing of it is said.
+fn list_read(room: &[u8], n: usize) {
+    if n < room.len() {
+        say_listing(listing::read_listing(&room[..n]));
+    } else {
         say(b"too long\n");
-        return;
     }
-    say_listing(listing::read_listing(&space[..n]));
+}
+
+// Lists standard input, at most 65,536 bytes. Where a read fails nothing is listed, and standard output stays empty.
+pub fn list() {
+    let mut room = [0; ROOM];
+    match terminal::read_input(&mut room) {
+        Input::Read(n) => list_read(&room, n),
+        Input::Failed => say_error(b"list_bucket: cannot read standard input\n"),
+    }
 }

@@ -5,10 +5,12 @@ ghost use lib.ListN.{length};
 ghost use Rattle.replay.specs.Replay.{cut};
 ghost use Rattle.console.specs.Code.{ShowsCode};
 use ledger::Ledger;
-use libc::STDIN_FILENO;
 use records::LONGEST_VERDICT;
 use replay::Front;
+use terminal::Input;
+use terminal::ROOM;
 use terminal::say;
+use terminal::say_error;
 use terminal::say_line;
 
 // A verdict's code stands behind the head of the record and that of its first field, a tag and a two-byte length each.
@@ -53,13 +55,20 @@ fn judge_trace(trace: &[u8]) {
     say_line(b"rest ", unread as u64);
 }
 
-// Judges standard input, at most 65,536 bytes; of a longer trace nothing is judged.
-pub fn judge() {
-    let mut space = io::large_buffer();
-    let n = io::read_full(STDIN_FILENO, &mut space);
-    if n == space.len() && terminal::is_more() {
+// Judges the first n bytes; a trace that fills the room is too long, and nothing of it is judged.
+fn judge_read(room: &[u8], n: usize) {
+    if n < room.len() {
+        judge_trace(&room[..n]);
+    } else {
         say(b"too long\n");
-        return;
     }
-    judge_trace(&space[..n]);
+}
+
+// Judges standard input, at most 65,536 bytes. Where a read fails nothing is judged, and standard output stays empty.
+pub fn judge() {
+    let mut room = [0; ROOM];
+    match terminal::read_input(&mut room) {
+        Input::Read(n) => judge_read(&room, n),
+        Input::Failed => say_error(b"judge: cannot read standard input\n"),
+    }
 }

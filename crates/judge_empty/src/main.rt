@@ -1,4 +1,0 @@
-// The program `judge` on an empty trace.
-fn main() {
-    console::judge();
-}

@@ -1,4 +1,0 @@
-// The program `judge` on a trace that ends in a torn record.
-fn main() {
-    console::judge();
-}

@@ -1,4 +1,0 @@
-// Lists standard input. Its stored listing is empty.
-fn main() {
-    bucket::list();
-}

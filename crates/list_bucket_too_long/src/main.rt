@@ -1,4 +1,0 @@
-// Lists standard input. Its stored listing is a byte too long.
-fn main() {
-    bucket::list();
-}
