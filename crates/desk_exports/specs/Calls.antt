@@ -19,7 +19,7 @@ use Rattle.desk.specs.Sale.{saleCode, saleOf}
 use Rattle.desk.specs.Card.{rowOf, rowLimit}
 use Rattle.exports.specs.Names.{Call}
 use Rattle.exports.specs.Codec.{written}
-use Rattle.exports.specs.Ledgers.{ledgerNumbers, ledgerFrom, ledgerSize}
+use Rattle.ledger_numbers.specs.Numbers.{ledgerFrom, laidBack, ledgerSize}
 
 -- a currency above 65,535 is taken as 65,535, which no sheet has
 abbrev pub narrow : ℕ → ℕ
@@ -62,7 +62,7 @@ module _ (ledger : List ℕ) (time : ℕ) (sheet : List ℕ) (currency hold fare
   unsold = record { answer = 3; ledger = ledger; sale = sale }
 
   abbrev pub told : SaleAnswer → SaleCall
-  told a = record { answer = 0; ledger = over (ledgerNumbers (a .ledger)) ledger; sale = over (saleCode (a .sale) ∷ chargeIn (a .sale) ∷ []) sale }
+  told a = record { answer = 0; ledger = laidBack (a .ledger) ledger; sale = over (saleCode (a .sale) ∷ chargeIn (a .sale) ∷ []) sale }
 
   -- 3 where a slice is too short; 0 with the next ledger, the code and the charge
   unfoldable pub sell : SaleCall
@@ -96,7 +96,7 @@ module _ (ledger : List ℕ) (time hold count : ℕ) (card : List ℕ) where
   unfilled n = record { answer = n; ledger = ledger; card = card }
 
   abbrev pub filledIn : RowFilled → CardCall
-  filledIn a = record { answer = a .code; ledger = over (ledgerNumbers (a .ledger)) ledger; card = putFilled (a .entries) count card }
+  filledIn a = record { answer = a .code; ledger = laidBack (a .ledger) ledger; card = putFilled (a .entries) count card }
 
   -- 3 where the ledger's numbers are too few or the card is too long; 2 where it has fewer entries than the count
   unfoldable pub fillCard : CardCall

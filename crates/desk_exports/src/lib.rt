@@ -8,11 +8,10 @@ ghost use Rattle.desk_exports.specs.Calls.{narrow, chargeIn, readSheet, 
 use desk::Entry;
 use desk::ROW;
 use desk::Sale;
-use exports::LEDGER;
 use exports::MALFORMED;
 use exports::NO_PLACE;
 use exports::codec;
-use exports::ledgers;
+use ledger_numbers::LEDGER;
 use sheets::Sheet;
 use sheets::SheetRead;
 
@@ -48,7 +47,7 @@ pub extern "C" fn cuudhaqil_read_sheet(bytes: &[u8], numbers: &mut [u64]) -> u64
         return MALFORMED;
     };
     let from = [s.object, s.currency as u64, s.numerator, s.denominator];
-    codec::fill(&from, numbers);
+    ledger_numbers::fill(&from, numbers);
     0
 }
 
@@ -109,11 +108,11 @@ pub extern "C" fn cuudhaqil_sell(
     if sale.len() < SALE {
         return NO_PLACE;
     }
-    let old = ledgers::ledger_from(ledger);
+    let old = ledger_numbers::ledger_from(ledger);
     let money = narrow_currency(currency);
     let sold = desk::sell(old, time, sheet, money, hold, fare);
     let next = sold.ledger;
-    ledgers::put_ledger(next, &mut ledger[0..LEDGER]);
+    ledger_numbers::lay_back(next, ledger);
     let told = sold.sale;
     sale[0] = sale_code(told);
     sale[1] = charge_in(told);
@@ -182,11 +181,11 @@ pub extern "C" fn cuudhaqil_fill_card(
     if length < n {
         return MALFORMED;
     }
-    let old = ledgers::ledger_from(ledger);
+    let old = ledger_numbers::ledger_from(ledger);
     let row = row_from(card, n);
     let filled = desk::fill_row(old, time, hold, n, row);
     let next = filled.ledger;
-    ledgers::put_ledger(next, &mut ledger[0..LEDGER]);
+    ledger_numbers::lay_back(next, ledger);
     let entries = filled.entries;
     put_filled(entries, n, card);
     filled.code as u64

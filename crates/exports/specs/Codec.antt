@@ -22,6 +22,7 @@ use Rattle.records.specs.declared.VerdictRead.{VerdictRead}
 use Rattle.records.specs.Steps.{decodeStep, stepRead}
 use Rattle.records.specs.Verdicts.{decodeVerdict, verdictRead}
 use Rattle.records.specs.Writing.{readingCode, writeCode, Writing, stepWriting, verdictWriting}
+use Rattle.ledger_numbers.specs.Numbers.{roleNumber}
 use Rattle.exports.specs.declared.AnswerRead.{AnswerRead}
 use Rattle.exports.specs.declared.AnswerRead.the-variants.{Known as IsAnswer, Unknown as NoAnswer}
 use Rattle.exports.specs.Names.{Call}
@@ -55,10 +56,6 @@ abbrev pub written : Writing → Call
 written w = record { answer = writeCode (w .answer); left = w .buffer }
 
 -- Steps
-
-abbrev pub roleNumber : Role → ℕ
-roleNumber Writer = 0
-roleNumber Compactor = 1
 
 -- kind, time, role, epoch, slot, object, currency, hold, manifest, expiry, and how long the list is; 0 for what the kind does not have
 abbrev pub stepNumbers : ℕ → Kind → ℕ → List ℕ

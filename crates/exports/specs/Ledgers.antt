@@ -1,130 +1,52 @@
--- A ledger as numbers, of any value, and what C's call of a step answers and leaves in the slices that are lent to be written.
+-- What C's calls on a ledger answer and leave in the slices that are lent to be written; a ledger is its numbers (crate ledger_numbers).
 -- Assumes nothing.
-use mathlib.Core.Bool.{Bool, true, false, not, cond}
-use mathlib.Core.List.{List, [], _∷_, _++_}
-use Prim.Native.Nat.{ℕ, zero, suc, _+_, _*_, _%_}
-use lib.Dec.{eqb, ltb}
-use lib.ListN.{length, take, drop, getD}
+use mathlib.Core.Bool.{cond}
+use mathlib.Core.List.{List, [], _∷_}
+use Prim.Native.Nat.{ℕ}
+use lib.Dec.{ltb}
+use lib.ListN.{length, take, getD}
 use Rattle.fields.specs.Fields.{over}
-use Rattle.rules.specs.declared.Role.{Role}
-use Rattle.rules.specs.declared.Role.the-variants.{Writer, Compactor}
-use Rattle.rules.specs.declared.Object.{Object}
-use Rattle.rules.specs.declared.Hold.{Hold}
-use Rattle.rules.specs.Limits.{limits, manifestLimit, wordCount}
+use Rattle.rules.specs.Limits.{limits}
 use Rattle.rules.specs.State.{fresh as freshState}
+use Rattle.rules.specs.Request.{Request, Unreadable}
+use Rattle.rules.specs.Typed.{requestOf as stepRequest}
 use Rattle.records.specs.declared.KindRead.{KindRead}
 use Rattle.records.specs.declared.KindRead.the-variants.{Known, Unknown}
-use Rattle.objects.specs.declared.Objects.{Objects}
-use Rattle.manifests.specs.declared.KeptManifest.{KeptManifest}
-use Rattle.manifests.specs.declared.Manifests.{Manifests}
-use Rattle.holds.specs.declared.Holds.{Holds}
 use Rattle.ledger.specs.declared.Ledger.{Ledger}
 use Rattle.ledger.specs.declared.StepAnswer.{StepAnswer}
-use Rattle.ledger.specs.Ledger.{lay}
-use Rattle.ledger.specs.Step.{stepOf}
+use Rattle.ledger.specs.Ledger.{lay, view, isSound}
+use Rattle.ledger.specs.Step.{judged}
+use Rattle.ledger_numbers.specs.Numbers.{ledgerSize, ledgerNumbers, ledgerFrom, laidBack}
 use Rattle.exports.specs.Names.{Call}
-use Rattle.exports.specs.Codec.{roleNumber, stepSize, verdictSize, kindOf, verdictNumbers}
-
-abbrev pub flag : Bool → ℕ
-flag true = 1
-flag false = 0
-
--- How many numbers an object, a manifest and a hold have; a manifest's names stand behind the others
-
-abbrev pub objectSize : ℕ
-objectSize = 5
-
-abbrev pub namesAt : ℕ
-namesAt = 4
-
-abbrev pub manifestSize : ℕ
-manifestSize = namesAt + limits .names
-
-abbrev pub holdSize : ℕ
-holdSize = 3
-
--- Where the parts begin: behind clock and highest number collected the occupancy words, the places, the count of manifests and their places, the count of
--- holds and theirs
-
-abbrev pub occupancyAt : ℕ
-occupancyAt = 2
-
-abbrev pub objectsAt : ℕ
-objectsAt = occupancyAt + wordCount
-
-abbrev pub keptAt : ℕ
-keptAt = objectsAt + limits .places * objectSize
-
-abbrev pub manifestsAt : ℕ
-manifestsAt = keptAt + 1
-
-abbrev pub heldAt : ℕ
-heldAt = manifestsAt + manifestLimit limits * manifestSize
-
-abbrev pub holdsAt : ℕ
-holdsAt = heldAt + 1
-
-abbrev pub ledgerSize : ℕ
-ledgerSize = holdsAt + limits .holds * holdSize
-
--- Out
-
-abbrev pub objectNumbers : Object → List ℕ
-objectNumbers o = o .number ∷ roleNumber (o .role) ∷ o .epoch ∷ o .currency ∷ flag (o .named) ∷ []
-
-abbrev pub manifestNumbers : KeptManifest → List ℕ
-manifestNumbers m = m .number ∷ m .writer ∷ m .compactor ∷ m .count ∷ m .names
-
-abbrev pub holdNumbers : Hold → List ℕ
-holdNumbers x = x .number ∷ x .manifest ∷ x .expiry ∷ []
-
-unfoldable pub flat : {A : Type 0} → (A → List ℕ) → List A → List ℕ
-flat f [] = []
-flat f (x ∷ xs) = f x ++ flat f xs
-
-unfoldable pub ledgerNumbers : Ledger → List ℕ
-ledgerNumbers l =
-    l .clock ∷ l .collected ∷ (l .objects .occupancy
-    ++ (flat objectNumbers (l .objects .items)
-    ++ (l .manifests .count ∷ (flat manifestNumbers (l .manifests .items)
-    ++ (l .holds .count ∷ flat holdNumbers (l .holds .items))))))
-
--- In, of any numbers: a role is 0 or not, a mark is 0 or not, a currency's last 16 bits are taken
-
-abbrev pub roleFrom : ℕ → Role
-roleFrom n = cond (eqb n 0) Writer Compactor
-
-abbrev pub objectFrom : List ℕ → Object
-objectFrom v = record { number = getD v 0 0; role = roleFrom (getD v 1 0); epoch = getD v 2 0; currency = getD v 3 0 % 65536; named = not (eqb (getD v 4 0) 0) }
-
-abbrev pub manifestFrom : List ℕ → KeptManifest
-manifestFrom v = record { number = getD v 0 0; writer = getD v 1 0; compactor = getD v 2 0; count = getD v 3 0; names = take (limits .names) (drop namesAt v) }
-
-abbrev pub holdFrom : List ℕ → Hold
-holdFrom v = record { number = getD v 0 0; manifest = getD v 1 0; expiry = getD v 2 0 }
-
--- k places of that many numbers each
-unfoldable pub each : {A : Type 0} → (List ℕ → A) → ℕ → ℕ → List ℕ → List A
-each f size zero v = []
-each f size (suc k) v = f v ∷ each f size k (drop size v)
-
-abbrev pub objectsFrom : List ℕ → Objects
-objectsFrom v = record { occupancy = take wordCount (drop occupancyAt v); items = each objectFrom objectSize (limits .places) (drop objectsAt v) }
-
-abbrev pub manifestsFrom : List ℕ → Manifests
-manifestsFrom v = record { count = getD v keptAt 0; items = each manifestFrom manifestSize (manifestLimit limits) (drop manifestsAt v) }
-
-abbrev pub holdsFrom : List ℕ → Holds
-holdsFrom v = record { count = getD v heldAt 0; items = each holdFrom holdSize (limits .holds) (drop holdsAt v) }
-
-unfoldable pub ledgerFrom : List ℕ → Ledger
-ledgerFrom v = record { clock = getD v 0 0; collected = getD v 1 0; objects = objectsFrom v; manifests = manifestsFrom v; holds = holdsFrom v }
-
--- The calls
+use Rattle.exports.specs.Codec.{stepSize, verdictSize, kindOf, verdictNumbers}
 
 -- 0, or 3 where the slice is too short
 unfoldable pub fresh : List ℕ → Call
 fresh numbers = cond (ltb (length numbers) ledgerSize) (record { answer = 3; left = numbers }) (record { answer = 0; left = over (ledgerNumbers (lay freshState)) numbers })
+
+-- "1 ledger not sound": 0 where it is sound; 3 where the slice is too short
+unfoldable pub soundness : List ℕ → ℕ
+soundness numbers = cond (ltb (length numbers) ledgerSize) 3 (cond (isSound (ledgerFrom numbers)) 0 1)
+
+-- the current manifest's number, the writer's epoch, the compactor's
+abbrev pub currentNumbers : Ledger → List ℕ
+currentNumbers l = view l .current .number ∷ view l .current .writerEpoch ∷ view l .current .compactorEpoch ∷ []
+
+-- 0 with the three numbers; 1 where the ledger is not sound; 3 where a slice is too short
+unfoldable pub current : List ℕ → List ℕ → Call
+current ledger numbers =
+    cond (ltb (length ledger) ledgerSize) (record { answer = 3; left = numbers })
+    (cond (ltb (length numbers) 3) (record { answer = 3; left = numbers })
+    (cond (isSound (ledgerFrom ledger)) (record { answer = 0; left = over (currentNumbers (ledgerFrom ledger)) numbers }) (record { answer = 1; left = numbers })))
+
+-- 1,000,000 for the base, 1,000 for each request of document 02 that has landed, in their order, and one for each change after it
+abbrev pub version : ℕ
+version = 1005000
+
+-- what the numbers of a step ask: those that say no kind are a step that no record can say
+abbrev pub requestOf : KindRead → List ℕ → List ℕ → Request
+requestOf Unknown numbers list = Unreadable
+requestOf (Known k) numbers list = stepRequest (record { time = getD numbers 1 0; kind = k; list = record { count = getD numbers 10 0; names = take (limits .names) list } })
 
 -- the answer of a step, and every element of the three slices that it may write
 pub record Stepped : Type 0 where
@@ -134,27 +56,23 @@ pub record Stepped : Type 0 where
   pub objects : List ℕ
 
 module _ (ledger numbers list verdict objects : List ℕ) where
-  abbrev pub untouched : ℕ → Stepped
-  untouched n = record { answer = n; ledger = ledger; verdict = verdict; objects = objects }
+  abbrev pub untouched : Stepped
+  untouched = record { answer = 3; ledger = ledger; verdict = verdict; objects = objects }
 
   abbrev pub stepped : StepAnswer → Stepped
   stepped a = record {
     answer = 0;
-    ledger = over (ledgerNumbers (a .ledger)) ledger;
+    ledger = laidBack (a .ledger) ledger;
     verdict = over (verdictNumbers (a .verdict .answer) (a .verdict .list .count)) verdict;
     objects = over (a .verdict .list .objects) objects;
   }
 
-  abbrev pub ofKind : KindRead → Stepped
-  ofKind Unknown = untouched 2
-  ofKind (Known k) = stepped (stepOf (ledgerFrom ledger) (record { time = getD numbers 1 0; kind = k; list = record { count = getD numbers 10 0; names = take (limits .names) list } }))
-
-  -- 3 where a slice is too short; 2 where the numbers say no kind; 0 with the next ledger, the verdict and its list
+  -- 3 where a slice is too short; 0 with the next ledger, the verdict and its list
   unfoldable pub step : Stepped
   step =
-      cond (ltb (length ledger) ledgerSize) (untouched 3)
-      (cond (ltb (length numbers) stepSize) (untouched 3)
-      (cond (ltb (length list) (limits .names)) (untouched 3)
-      (cond (ltb (length verdict) verdictSize) (untouched 3)
-      (cond (ltb (length objects) (limits .places)) (untouched 3)
-      (ofKind (kindOf numbers))))))
+      cond (ltb (length ledger) ledgerSize) untouched
+      (cond (ltb (length numbers) stepSize) untouched
+      (cond (ltb (length list) (limits .names)) untouched
+      (cond (ltb (length verdict) verdictSize) untouched
+      (cond (ltb (length objects) (limits .places)) untouched
+      (stepped (judged (ledgerFrom ledger) (requestOf (kindOf numbers) numbers list)))))))

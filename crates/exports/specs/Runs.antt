@@ -10,7 +10,7 @@ use Rattle.rules.specs.State.{fresh}
 use Rattle.ledger.specs.Ledger.{lay}
 use Rattle.replay.specs.declared.Ran.{Ran}
 use Rattle.replay.specs.Replay.{endingCode, Replay, replayOf}
-use Rattle.exports.specs.Ledgers.{ledgerNumbers, ledgerFrom, ledgerSize}
+use Rattle.ledger_numbers.specs.Numbers.{ledgerFrom, laidBack, ledgerSize}
 
 -- the bytes read, then the bytes written, over the first two elements
 abbrev pub countsOf : Ran → List ℕ → List ℕ
@@ -38,7 +38,7 @@ pub record RunOnCall : Type 0 where
 abbrev pub calledOn : Replay → List ℕ → List ℕ → RunOnCall
 calledOn r ledger counts = record {
   answer = endingCode (r .answer .ending);
-  ledger = over (ledgerNumbers (r .answer .ledger)) ledger;
+  ledger = laidBack (r .answer .ledger) ledger;
   out = r .buffer;
   counts = countsOf (r .answer) counts;
 }

@@ -5,7 +5,8 @@ ghost use Prim.Native.Nat.{_≤_};
 ghost use lib.ListN.{length};
 ghost use Rattle.fields.specs.Fields.{over, nextOf, nextCode};
 ghost use Rattle.records.specs.Writing.{writeCode};
-ghost use Rattle.exports.specs.Codec.{stepSize, roleNumber, stepNumbers, kindOf, fenceOf, putOf, lookOf, verdictNumbers, answerOf, readStep, writeStep, readVerdict, writeVerdict};
+ghost use Rattle.ledger_numbers.specs.Numbers.{roleNumber};
+ghost use Rattle.exports.specs.Codec.{stepSize, stepNumbers, kindOf, fenceOf, putOf, lookOf, verdictNumbers, answerOf, readStep, writeStep, readVerdict, writeVerdict};
 use crate::AnswerRead;
 use crate::FULL;
 use crate::MALFORMED;
@@ -27,18 +28,6 @@ use rules::Step;
 use rules::Verdict;
 
 const READ: u64 = 0;
-
-// Lays the numbers over the start of the others.
-pub fn fill(from: &[u64], to: &mut [u64])
-    requires { ⌜ length (now from) ≤ length (now to) ⌝ }
-    ensures { λ _. ⌜ now (to .exit) ≡ over (now (from .entry)) (now (to .entry)) ⌝ }
-{
-    let mut i = 0;
-    while i < from.len() {
-        to[i] = from[i];
-        i += 1;
-    }
-}
 
 // The writer's answer as a number.
 pub fn write_code(w: Write) -> u64
@@ -65,21 +54,24 @@ pub extern "C" fn cuudhaqil_next_record(trace: &[u8]) -> u64
 
 // Steps
 
-pub fn role_number(role: Role) -> u64
-    ensures { λ r. ⌜ r ≡ roleNumber role ⌝ }
-{
-    match role {
-        Role::Writer => 0,
-        Role::Compactor => 1,
-    }
-}
-
 // Kind, time, role, epoch, slot, object, currency, hold, manifest, expiry, and the list's count.
 fn step_numbers(t: u64, kind: Kind, n: u64) -> [u64; STEP]
     ensures { λ r. ⌜ r ≡ stepNumbers t kind n ⌝ }
 {
     match kind {
-        Kind::Fence { role, slot } => [0, t, role_number(role), 0, slot, 0, 0, 0, 0, 0, n],
+        Kind::Fence { role, slot } => [
+            0,
+            t,
+            ledger_numbers::role_number(role),
+            0,
+            slot,
+            0,
+            0,
+            0,
+            0,
+            0,
+            n,
+        ],
         Kind::Put {
             role,
             epoch,
@@ -88,7 +80,7 @@ fn step_numbers(t: u64, kind: Kind, n: u64) -> [u64; STEP]
         } => [
             1,
             t,
-            role_number(role),
+            ledger_numbers::role_number(role),
             epoch,
             0,
             object,
@@ -137,9 +129,9 @@ pub extern "C" fn cuudhaqil_read_step(bytes: &[u8], numbers: &mut [u64], list: &
     let l = step.list;
     let kind = step.kind;
     let from = step_numbers(step.time, kind, l.count as u64);
-    fill(&from, numbers);
+    ledger_numbers::fill(&from, numbers);
     let names = l.names;
-    fill(&names, list);
+    ledger_numbers::fill(&names, list);
     READ
 }
 
@@ -251,7 +243,7 @@ pub extern "C" fn cuudhaqil_write_step(numbers: &[u64], list: &[u64], out: &mut 
     let time = numbers[1];
     let count = numbers[10] as usize;
     let mut names = [0u64; NAMES];
-    fill(&list[..NAMES], &mut names);
+    ledger_numbers::fill(&list[..NAMES], &mut names);
     let l = NameList { count, names };
     let step = Step {
         time,
@@ -297,9 +289,9 @@ pub extern "C" fn cuudhaqil_read_verdict(bytes: &[u8], numbers: &mut [u64], list
     let l = verdict.list;
     let answer = verdict.answer;
     let from = verdict_numbers(answer, l.count as u64);
-    fill(&from, numbers);
+    ledger_numbers::fill(&from, numbers);
     let objects = l.objects;
-    fill(&objects, list);
+    ledger_numbers::fill(&objects, list);
     READ
 }
 
@@ -340,7 +332,7 @@ pub extern "C" fn cuudhaqil_write_verdict(numbers: &[u64], list: &[u64], out: &m
     };
     let count = numbers[2] as usize;
     let mut objects = [0u64; PLACES];
-    fill(&list[..PLACES], &mut objects);
+    ledger_numbers::fill(&list[..PLACES], &mut objects);
     let l = ObjectList { count, objects };
     let verdict = Verdict { answer, list: l };
     write_code(records::write_verdict(verdict, out))

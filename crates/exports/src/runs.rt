@@ -2,10 +2,9 @@
 ghost use mathlib.Core.Path.{_≡_};
 ghost use Rattle.replay.specs.Replay.{endingCode};
 ghost use Rattle.exports.specs.Runs.{run, runOn};
-use crate::LEDGER;
 use crate::NO_PLACE;
-use crate::ledgers;
 use ledger::Ledger;
+use ledger_numbers::LEDGER;
 use replay::Ending;
 
 // The bytes read, and the bytes written.
@@ -53,10 +52,10 @@ pub extern "C" fn cuudhaqil_run_on(
     if counts.len() < COUNTS {
         return NO_PLACE;
     }
-    let old = ledgers::ledger_from(ledger);
+    let old = ledger_numbers::ledger_from(ledger);
     let ran = replay::run(old, trace, out);
     let next = ran.ledger;
-    ledgers::put_ledger(next, &mut ledger[0..LEDGER]);
+    ledger_numbers::lay_back(next, ledger);
     counts[0] = ran.read as u64;
     counts[1] = ran.written as u64;
     let ending = ran.ending;

@@ -45,6 +45,6 @@ pub extern "C" fn cuudhaqil_read_listing(bytes: &[u8], numbers: &mut [u64]) -> u
         said.objects,
         or_zero(bad),
     ];
-    codec::fill(&from, numbers);
+    ledger_numbers::fill(&from, numbers);
     is_some(bad)
 }

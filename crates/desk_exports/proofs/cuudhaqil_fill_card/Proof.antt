@@ -4,17 +4,14 @@ use mathlib.Core.List.{List}
 use Prim.Native.Nat.{_/_}
 use native.Mathlib.Omega.{arith}
 use lib.ListN.{length}
-use borrow.Author.Needs.{needs}
 use borrow.Author.Tests.{lt-ltb, le-ltb}
-use borrow.Rule.Slice.PartMut.{mid-len}
 use Rattle.ledger.specs.declared.Ledger.{Ledger}
 use Rattle.desk.specs.declared.Entry.{Entry}
 use Rattle.desk.specs.declared.RowFilled.{RowFilled}
-use Rattle.desk.specs.Card.{rowOf}
-use Rattle.exports.specs.Ledgers.{ledgerNumbers, ledgerSize}
-use Rattle.exports.proofs.Places.{over-lent}
-use Rattle.desk.specs.Card.{rowLimit}
+use Rattle.desk.specs.Card.{rowOf, rowLimit}
+use Rattle.ledger_numbers.specs.Numbers.{ledgerSize}
 use Rattle.desk_exports.specs.Calls.{filledIn, fillCard}
+use borrow.Author.Needs.{needs}
 use Rattle.desk_exports.proofs.cuudhaqil_fill_card.Statement.{statement}
 use Rattle.desk_exports.proofs.cuudhaqil_fill_card.Tie as tie
 
@@ -24,9 +21,7 @@ returns c = rw (lt-ltb (length (c .before .before .before .args .ledger .now)) l
 
 returns-2 : tie.Need-returns-2
 unfolding fillCard
-returns-2 c =
-    let a = c .before .before .before .before .args in
-    rw (le-ltb (length (a .ledger .now)) ledgerSize (c .before .if1 .left), lt-ltb rowLimit (length (a .card .now) / 3) (c .if2 .taken))
+returns-2 c = rw (le-ltb (length (c .before .before .before .before .args .ledger .now)) ledgerSize (c .before .if1 .left), lt-ltb rowLimit (length (c .before .before .before .before .args .card .now) / 3) (c .if2 .taken))
 
 returns-3 : tie.Need-returns-3
 unfolding fillCard
@@ -37,20 +32,14 @@ returns-3 c =
 returns-4 : tie.Need-returns-4
 unfolding fillCard
 returns-4 c =
-    let put = c .before .before .before .before .before .before .before .before in
-    let done = put .before .before .before in
-    let few = done .before .before .before .before .before in
-    let short = few .before in
-    let long = short .before in
-    let a = long .before .before .before .args in
+    let a = c .before .before .before .before .before .before .before .before .before .before .before .before .before .before .before .before .before .before .before .before .before .args in
     let ledger = a .ledger .now in
     let card = a .card .now in
-    let r = done .fill-row .result in
-    let next = over-lent (ledgerNumbers (r .ledger)) (put .put-ledger .last .1 .0) ledger ledgerSize (put .put-ledger .ensures) (put .put-ledger .kept .1 .0 ∙ mid-len 0 ledgerSize ledger (omega (arith, long .if1 .left))) in
-    let filled = done .fill-row .ensures ∙ ap₂ (λ (l : Ledger) (es : List Entry). rowOf l (a .time) (a .hold) (a .count) es) (done .before .before .before .ledger-from .ensures) (done .before .row-from .ensures) in
-    rw (le-ltb (length ledger) ledgerSize (long .if1 .left), le-ltb rowLimit (length card / 3) (short .if2 .left), le-ltb (length card / 3) (a .count) (few .if3 .left))
+    let r = c .before .before .before .before .before .before .before .before .before .before .before .fill-row .result in
+    let filled = c .before .before .before .before .before .before .before .before .before .before .before .fill-row .ensures ∙ ap₂ (λ (l : Ledger) (es : List Entry). rowOf l (a .time) (a .hold) (a .count) es) (c .before .before .before .before .before .before .before .before .before .before .before .before .before .before .ledger-from .ensures) (c .before .before .before .before .before .before .before .before .before .before .before .before .row-from .ensures) in
+    rw (le-ltb (length ledger) ledgerSize (c .before .before .before .before .before .before .before .before .before .before .before .before .before .before .before .before .before .before .if1 .left), le-ltb rowLimit (length card / 3) (c .before .before .before .before .before .before .before .before .before .before .before .before .before .before .before .before .before .if2 .left), le-ltb (length card / 3) (a .count) (c .before .before .before .before .before .before .before .before .before .before .before .before .before .before .before .before .if3 .left))
     (ap (λ (x : RowFilled). filledIn ledger (a .time) (a .hold) (a .count) card x) (sym filled)
-    ∙ (λ i. record { answer = r .code; ledger = next i; card = sym (c .before .before .before .put-filled .ensures) i }))
+    ∙ (λ i. record { answer = r .code; ledger = sym (c .before .before .before .before .before .before .before .before .lay-back .ensures) i; card = sym (c .before .before .before .put-filled .ensures) i }))
 
 pub cuudhaqil-fill-card-spec : {M : Type 1} → statement M
 cuudhaqil-fill-card-spec =
@@ -61,10 +50,7 @@ cuudhaqil-fill-card-spec =
     returns-3
     (λ c κs. search needs)
     (λ c κs. search needs)
-    (λ c κs. tt)
-    (λ c. search needs)
-    (λ c. search needs)
-    (λ c. search needs)
+    (λ c κs. search needs)
     (λ c κs. search needs)
     (λ c κs. search needs)
     (λ c. search needs)

@@ -8,8 +8,9 @@ use borrow.Author.Tests.{lt-ltb, le-ltb}
 use borrow.Rule.Slice.PartMut.{mid-len}
 use Rattle.ledger.specs.Ledger.{lay}
 use Rattle.rules.specs.State.{fresh as freshState}
-use Rattle.exports.specs.Ledgers.{ledgerSize, ledgerNumbers, fresh}
-use Rattle.exports.proofs.Places.{over-lent}
+use Rattle.ledger_numbers.specs.Numbers.{ledgerSize, ledgerNumbers}
+use Rattle.exports.specs.Ledgers.{fresh}
+use Rattle.ledger_numbers.proofs.Places.{over-lent}
 use Rattle.exports.proofs.ledgers.cuudhaqil_fresh.Statement.{statement}
 use Rattle.exports.proofs.ledgers.cuudhaqil_fresh.Tie as tie
 

@@ -7,7 +7,7 @@ use lib.ListN.{length, take, replicate}
 use lib.Seq.{length-take-le}
 use borrow.Author.Needs.{needs}
 use Rattle.rules.specs.Limits.{limits}
-use Rattle.exports.proofs.Over.{over-all}
+use Rattle.ledger_numbers.proofs.Over.{over-all}
 use Rattle.exports.proofs.ledgers.step_from.Statement.{statement}
 use Rattle.exports.proofs.ledgers.step_from.Tie as tie
 

@@ -8,7 +8,7 @@ use borrow.Author.Tests.{lt-ltb, le-ltb}
 use Rattle.ledger.specs.declared.Ledger.{Ledger}
 use Rattle.replay.specs.Replay.{Replay, replayOf}
 use Rattle.exports.specs.Runs.{called, run}
-use Rattle.exports.proofs.Over.{over-two}
+use Rattle.ledger_numbers.proofs.Over.{over-two}
 use Rattle.exports.proofs.runs.cuudhaqil_run.Statement.{statement}
 use Rattle.exports.proofs.runs.cuudhaqil_run.Tie as tie
 
