@@ -85,12 +85,12 @@ fn both_examples_print_the_stored_week() {
 }
 
 #[test]
-fn the_sale_prints_what_is_stored_and_the_readme_shows() {
+fn the_sale_prints_what_is_stored_and_the_format_page_shows() {
     let stored = fs::read_to_string(root().join("examples/sale.out")).expect("it is stored");
     assert_eq!(printed_by(&mut Command::new(compiled(SALE, "sale"))), stored);
-    let readme = fs::read_to_string(root().join("README.md")).expect("it is there");
+    let page = fs::read_to_string(root().join("docs/FORMAT.md")).expect("it is there");
     let shown: String = stored.lines().map(|line| format!("    {line}\n")).collect();
-    assert!(readme.contains(&shown), "README.md shows another sale");
+    assert!(page.contains(&shown), "docs/FORMAT.md shows another sale");
 }
 
 #[test]
