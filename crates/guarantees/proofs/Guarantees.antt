@@ -1,5 +1,4 @@
 -- All that is guaranteed, by what the crates prove. Assumes nothing.
-use mathlib.Core.Path.{refl}
 use Rattle.store_names.proofs.RoundTrip.{round-trip}
 use Rattle.rules.proofs.Table.{refusal-keeps, verdict-smallest}
 use Rattle.rules.proofs.LastManifest.{last-manifest}
@@ -28,7 +27,8 @@ use Rattle.desk.proofs.NoRate.{looked-exact, no-rate, sale-exact}
 use Rattle.desk.proofs.Onward.{onward}
 use Rattle.listing.proofs.Cutting.{cut}
 use Rattle.listing.proofs.Whole as listing
-use Rattle.guarantees.specs.Guarantees.{Demand1, Demand2, Demand3, Guarantees, Request1, Request2, Request3, Request4, Request5}
+use Rattle.ledger_numbers.proofs.Exact.{numbers-exact}
+use Rattle.guarantees.specs.Guarantees.{AsNumbers, Demand1, Demand2, Demand3, Guarantees, Request1, Request2, Request3, Request4, Request5}
 use Rattle.guarantees.proofs.AnyLedger.{no-step, number-accepted, number-refused, one-number}
 use Rattle.guarantees.proofs.Fronts.{full, no-step-record, refused-record, torn, untouched}
 use Rattle.guarantees.proofs.Buffers.{steps-on-buffers, verdicts-on-buffers}
@@ -97,10 +97,13 @@ request3 : Request3
 request3 = record { search = search-by-halves; reach = reach-by-halves }
 
 request4 : Request4
-request4 = record { occupancy = occupancy-by-words; oldVerdicts = old-verdicts-kept; longest = refl }
+request4 = record { occupancy = occupancy-by-words; oldVerdicts = old-verdicts-kept; longestVerdict = verdict-round-trip .longest; met = verdict-round-trip .met; longestStep = step-round-trip .longest }
 
 request5 : Request5
 request5 = record { lines = cut; whole = listing.whole }
+
+as-numbers : AsNumbers
+as-numbers = record { exact = numbers-exact }
 
 pub guarantees : Guarantees
 guarantees = record {
@@ -112,4 +115,5 @@ guarantees = record {
   request3 = request3;
   request4 = request4;
   request5 = request5;
+  asNumbers = as-numbers;
 }

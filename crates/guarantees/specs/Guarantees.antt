@@ -1,7 +1,8 @@
 -- What is guaranteed, on one page: the customer's three demands, then each request of document 02 that has landed. Every claim has its quantifiers here;
 -- `Guarantees`, at the end, holds them all, and proofs/Guarantees.antt proves it. docs/GUARANTEES.md says each in plain words. Assumes nothing.
 --
--- That the code answers what these definitions say is each operation's own contract, in its crate's src/, without a `requires`:
+-- That the code answers what these definitions say is each operation's own contract, in its crate's src/, without a `requires` (`reaches` serves the ledger
+-- alone, and asks for arrays of their sizes):
 --   Ledger::fresh         lay fresh                       Ledger::step    judged, of what the step asks (requestOf)
 --   Ledger::is_sound      isSound                         Ledger::refuse_unreadable   judged, of Unreadable
 --   replay::step_record   frontStep                       replay::run     replayOf
@@ -15,21 +16,24 @@ use mathlib.Core.Path.{_≡_}
 use mathlib.Core.Logic.{_⊎_, _↔_}
 use mathlib.Core.Bool.{Bool, true, false}
 use mathlib.Core.List.{List, []}
-use Prim.Native.Nat.{ℕ, _≤_, _<_}
+use Prim.Native.Nat.{ℕ, suc, _≤_, _<_}
 use lib.ListN.{length, take}
 use Rattle.store_names.specs.RoundTrip.{RoundTrip}
 use Rattle.fields.specs.declared.Next.the-variants.{Torn, Record}
 use Rattle.fields.specs.Fields.{over, nextOf}
+use Rattle.rules.specs.declared.Kind.{Kind}
 use Rattle.rules.specs.declared.Kind.the-variants.{Collect as COLLECT}
+use Rattle.rules.specs.declared.Answer.{Answer}
+use Rattle.rules.specs.declared.Answer.the-variants.{Collected}
 use Rattle.rules.specs.declared.Step.{Step}
 use Rattle.rules.specs.declared.Verdict.{Verdict}
 use Rattle.rules.specs.Lists.{has, none, risingAbove}
 use Rattle.rules.specs.Limits.{Limits, limits}
 use Rattle.rules.specs.State.{State, fresh}
 use Rattle.rules.specs.Words.{stored, listed}
-use Rattle.rules.specs.Table.{Row}
+use Rattle.rules.specs.Table.{Row, wellFormed}
 use Rattle.rules.specs.Request.{Request, Asked, Unreadable, Ask}
-use Rattle.rules.specs.Step.{code, effect, granted, longestVerdict, rowsOf}
+use Rattle.rules.specs.Step.{code, effect, granted, rowsOf}
 use Rattle.rules.specs.Typed.{namesOf, objectsOf}
 use Rattle.rules.specs.Verdict.{Smallest, VerdictSmallest, RefusalKeeps, LastManifest, CommitsExact}
 use Rattle.rules.specs.History.{storedAt, listedAt, deadAt}
@@ -43,8 +47,8 @@ use Rattle.records.specs.declared.Reading.the-variants.{Read}
 use Rattle.records.specs.declared.StepRead.{StepRead}
 use Rattle.records.specs.declared.VerdictRead.{VerdictRead}
 use Rattle.records.specs.declared.Write.the-variants.{Written, Malformed}
-use Rattle.records.specs.Steps.{fieldsOf, decodeStep, stepRead}
-use Rattle.records.specs.Verdicts.{verdictFields, decodeVerdict, verdictRead, NoVerdict}
+use Rattle.records.specs.Steps.{fieldsOf, encodeStep, decodeStep, stepRead}
+use Rattle.records.specs.Verdicts.{verdictFields, verdictFormed, encodeVerdict, decodeVerdict, verdictRead, NoVerdict}
 use Rattle.records.specs.Writing.{Writing, stepWriting, verdictWriting}
 use Rattle.records.specs.RoundTrip.{allFit, areBytes, StepRoundTrip, VerdictRoundTrip}
 use Rattle.objects.specs.Occupancy.{OccupancyByWords}
@@ -57,6 +61,7 @@ use Rattle.ledger.specs.Step.{refusedWith, answeredWith, judged}
 use Rattle.ledger.specs.Look.{LookOutcome}
 use Rattle.ledger.specs.Demand3.{verdictSize, ledgerAfter, Delivered}
 use Rattle.ledger.specs.Depot as onLedger
+use Rattle.ledger_numbers.specs.Exact.{NumbersExact}
 use Rattle.replay.specs.Front.{answerBytes, frontCode, unchanged, recordStep, frontStep}
 use Rattle.replay.specs.Counts.{Counted}
 use Rattle.replay.specs.Commit.{CommitsOnBytes}
@@ -220,12 +225,19 @@ pub record Request3 : Type 0 where
 pub record Request4 : Type 0 where
   pub occupancy : OccupancyByWords
   pub oldVerdicts : OldVerdictsKept
-  pub longest : longestVerdict ≡ 2058
+  -- "the longest verdict becomes 2,058 bytes": none is longer, and every place collected makes one that is; and the longest step
+  pub longestVerdict : (a : Answer) (l : List ℕ) → verdictFormed a l ≡ true → length (encodeVerdict a l) ≤ 2058
+  pub met : (l : List ℕ) → length l ≡ limits .places → length (encodeVerdict Collected l) ≡ 2058
+  pub longestStep : (t : ℕ) (k : Kind) (l : List ℕ) → wellFormed limits t k l ≡ true → length (encodeStep t k l) ≤ 551
 
 -- [5] names have folders (Demand2 .names); a listing is cut into lines in one way, and which bytes are a whole one and what it says
 pub record Request5 : Type 0 where
   pub lines : Cut
   pub whole : listing.Whole
+
+-- ---- A ledger as numbers, for callers that see no struct: a refusal leaves them bit for bit, and what no ledger can be is not sound
+pub record AsNumbers : Type 0 where
+  pub exact : NumbersExact
 
 pub record Guarantees : Type 0 where
   pub demand1 : Demand1
@@ -236,3 +248,4 @@ pub record Guarantees : Type 0 where
   pub request3 : Request3
   pub request4 : Request4
   pub request5 : Request5
+  pub asNumbers : AsNumbers
