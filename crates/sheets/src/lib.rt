@@ -135,6 +135,9 @@ pub fn write_sheet(sheet: Sheet, out: &mut [u8]) -> Write
     if !is_formed(sheet) {
         return Write::Malformed;
     }
+    if out.len() < SHEET {
+        return Write::Full;
+    }
     let fields = sheet_fields(sheet);
     let none = [0u64; 0];
     records::write_record(SHEET_TAG, fields, &none, out)
