@@ -1,11 +1,12 @@
 //! The proved library's ledger against the second one, step by step.
 
-use std::fs;
+use std::thread;
 
-use second::compare::ledgers::{compare_sequence, Calls, Counts, Course, SECOND};
+use second::compare::ledgers::{compare_sequence, Calls, Counts, Course, LEDGER, SECOND};
 use second::compare::Answers;
+use second::depot;
 use second::generate::guided::Guide;
-use second::limits::{PLACES, WORDS};
+use second::limits::{NAMES, PLACES, WORDS};
 use second::proved;
 use second::random::Random;
 
@@ -86,14 +87,56 @@ fn damaged_ledgers_are_judged_alike() {
     assert!(counts.widened >= 1_000, "{counts:?}");
 }
 
+/// The number that the header gives that name.
+fn header_number(name: &str) -> usize {
+    let header = include_str!("../../include/cuudhaqil.h");
+    let (_, rest) = header.split_once(&format!("{name} = ")).expect(name);
+    rest.split_once([',', '\n']).expect(name).0.parse().expect(name)
+}
+
+/// A thread that has no more stack than the header says runs every call. A
+/// call that needs more ends the tests.
+#[test]
+fn the_stack_that_the_header_says_is_enough() {
+    let calls = || {
+        let (mut ledger, mut counts) = (vec![0; LEDGER], [0; 2]);
+        let (mut verdict, mut objects, mut list) = ([0; 3], vec![0; PLACES], vec![0; PLACES]);
+        let (mut out, mut numbers) = (vec![0; 4_096], [0; 11]);
+        let (trace, listing) = (depot::trace(), b"wal/00000000000000000001.sst\n");
+        assert_eq!(proved::fresh(&mut ledger), 0);
+        assert_eq!(proved::run(&trace, &mut out, &mut counts), 0);
+        assert_eq!(proved::run_on(&mut ledger, &trace, &mut out, &mut counts), 0);
+        assert_eq!((proved::is_sound(&ledger), proved::current(&ledger, &mut numbers)), (0, 0));
+        for kind in 0..=10 {
+            let step = [kind, 22, 0, 2, 7, 9, 978, 1, 6, 0, 0];
+            let answer =
+                proved::step(&mut ledger, &step, &list[..NAMES], &mut verdict, &mut objects);
+            assert_eq!(answer, 0);
+        }
+        let mut sheet = [0; 41];
+        assert_eq!(proved::write_sheet(&[5, 978, 11, 10], &mut sheet), 41);
+        assert_eq!(proved::read_sheet(&sheet, &mut numbers), 0);
+        let mut sale = [0; 2];
+        assert_eq!(proved::sell(&mut ledger, 22, &sheet, 978, 0, 250, &mut sale), 0);
+        assert_eq!(proved::fill_card(&mut ledger, 22, 0, 64, &mut [978; 192]), 0);
+        assert_eq!(proved::read_step(&trace[..29], &mut numbers, &mut list), 0);
+        assert_eq!(proved::write_step(&numbers, &list, &mut out), 29);
+        assert_eq!(proved::write_verdict(&[1, 0, 0], &objects, &mut out), 7);
+        assert_eq!(proved::read_verdict(&out[..7], &mut numbers, &mut list), 0);
+        assert_eq!(proved::next_record(&trace), 29);
+        assert_eq!(proved::write_name(1, 1, &mut out), 28);
+        assert_eq!(proved::read_name(&out[..28], &mut numbers), 1);
+        assert_eq!(proved::read_listing(listing, &mut numbers), 0);
+    };
+    let thread = thread::Builder::new().stack_size(header_number("CUUDHAQIL_STACK"));
+    thread.spawn(calls).expect("a thread").join().expect("the calls");
+}
+
 /// The version is the one that the header and the programs tell.
 #[test]
 fn the_version_is_told() {
-    let root = concat!(env!("CARGO_MANIFEST_DIR"), "/..");
-    let read = |name: &str| fs::read_to_string(format!("{root}/{name}")).expect(name);
-    let parts: Vec<u64> =
-        read("VERSION").trim().split('.').map(|part| part.parse().expect("a number")).collect();
-    let version = parts.iter().fold(0, |sum, part| sum * 1_000 + part);
+    let parts = include_str!("../../VERSION").trim().split('.');
+    let version = parts.fold(0, |sum, part| sum * 1_000 + part.parse::<u64>().expect("a number"));
     assert_eq!(proved::version(), version);
-    assert!(read("include/cuudhaqil.h").contains(&format!("CUUDHAQIL_VERSION = {version},")));
+    assert_eq!(header_number("CUUDHAQIL_VERSION") as u64, version);
 }

@@ -63,7 +63,7 @@ module _ (l : Ledger) (q : Request) where
   unfolding judged ruled
   judged-sound e = rw e
 
-  judged-unsound : isSound l ≡ false → judged l q ≡ refusedWith 1 l
+  pub judged-unsound : isSound l ≡ false → judged l q ≡ refusedWith 1 l
   unfolding judged
   judged-unsound e = rw e
 

@@ -30,6 +30,7 @@ use Rattle.listing.proofs.Whole as listing
 use Rattle.ledger_numbers.proofs.Exact.{numbers-exact}
 use Rattle.guarantees.specs.Guarantees.{AsNumbers, Demand1, Demand2, Demand3, Guarantees, Request1, Request2, Request3, Request4, Request5}
 use Rattle.guarantees.proofs.AnyLedger.{no-step, number-accepted, number-refused, one-number}
+use Rattle.guarantees.proofs.Calls.{refused-sale, refused-step, unsound-run}
 use Rattle.guarantees.proofs.Fronts.{full, no-step-record, refused-record, torn, untouched}
 use Rattle.guarantees.proofs.Buffers.{steps-on-buffers, verdicts-on-buffers}
 use Rattle.guarantees.proofs.Sequences.{collectable, collects, keeps, never-charged}
@@ -103,7 +104,7 @@ request5 : Request5
 request5 = record { lines = cut; whole = listing.whole }
 
 as-numbers : AsNumbers
-as-numbers = record { exact = numbers-exact }
+as-numbers = record { exact = numbers-exact; refusedStep = refused-step; refusedSale = refused-sale; unsoundRun = unsound-run }
 
 pub guarantees : Guarantees
 guarantees = record {

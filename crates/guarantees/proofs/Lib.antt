@@ -1,5 +1,6 @@
 pub mod AnyLedger
 pub mod Fronts
+pub mod Calls
 pub mod Buffers
 pub mod Sequences
 pub mod Guarantees

@@ -61,17 +61,22 @@ use Rattle.ledger.specs.Step.{refusedWith, answeredWith, judged}
 use Rattle.ledger.specs.Look.{LookOutcome}
 use Rattle.ledger.specs.Demand3.{verdictSize, ledgerAfter, Delivered}
 use Rattle.ledger.specs.Depot as onLedger
+use Rattle.ledger_numbers.specs.Numbers.{ledgerFrom}
 use Rattle.ledger_numbers.specs.Exact.{NumbersExact}
 use Rattle.replay.specs.Front.{answerBytes, frontCode, unchanged, recordStep, frontStep}
 use Rattle.replay.specs.Counts.{Counted}
 use Rattle.replay.specs.Commit.{CommitsOnBytes}
 use Rattle.replay.specs.Demand3.{RunDelivered}
 use Rattle.sheets.specs.RoundTrip.{SheetRoundTrip}
-use Rattle.desk.specs.declared.Sale.the-variants.{Charged}
+use Rattle.desk.specs.declared.Sale.the-variants.{Charged, Refused}
 use Rattle.desk.specs.Charge.{ChargeIsSmallest}
 use Rattle.desk.specs.Sale.{saleOf}
 use Rattle.desk.specs.NoRate.{SaleExact, LookedExact, NoRateNoCharge}
 use Rattle.desk.specs.Onward.{Onward}
+use Rattle.exports.specs.Codec.{kindOf}
+use Rattle.exports.specs.Ledgers.{requestOf as requestIn, step}
+use Rattle.exports.specs.Runs.{runOn}
+use Rattle.desk_exports.specs.Calls.{narrow, sell}
 use Rattle.listing.specs.Lines.{Cut}
 use Rattle.listing.specs.Whole as listing
 
@@ -235,9 +240,16 @@ pub record Request5 : Type 0 where
   pub lines : Cut
   pub whole : listing.Whole
 
--- ---- A ledger as numbers, for callers that see no struct: a refusal leaves them bit for bit, and what no ledger can be is not sound
+-- ---- A ledger as numbers, for callers that see no struct (C): numbers that no ledger can be are a ledger that is not sound
+
 pub record AsNumbers : Type 0 where
   pub exact : NumbersExact
+  -- a refusal leaves the numbers that were lent as they are, bit for bit: of a step, of a sale, and of a run on a ledger that is not sound
+  pub refusedStep : (ledger numbers list verdict objects : List ℕ) → (numberOn (ledgerFrom ledger) (requestIn (kindOf numbers) numbers list) ≡ 0 → ⊥)
+      → step ledger numbers list verdict objects .ledger ≡ ledger
+  pub refusedSale : (ledger : List ℕ) (time : ℕ) (sheet : List ℕ) (currency hold fare : ℕ) (sale : List ℕ) (n : ℕ)
+      → saleOf (ledgerFrom ledger) time sheet (narrow currency) hold fare .sale ≡ Refused n → sell ledger time sheet currency hold fare sale .ledger ≡ ledger
+  pub unsoundRun : (ledger trace out counts : List ℕ) → isSound (ledgerFrom ledger) ≡ false → runOn ledger trace out counts .ledger ≡ ledger
 
 pub record Guarantees : Type 0 where
   pub demand1 : Demand1

@@ -4,7 +4,7 @@
 use mathlib.Core.Bool.{Bool, true, false, cond}
 use mathlib.Core.List.{List, [], _∷_, flatten}
 use Prim.Native.Nat.{ℕ, zero, suc, _-_}
-use lib.Dec.{ltb}
+use lib.Dec.{eqb, ltb}
 use lib.ListN.{length, take, drop}
 use Rattle.fields.specs.declared.Next.{Next}
 use Rattle.fields.specs.declared.Next.the-variants.{End, Torn, Record}
@@ -12,11 +12,10 @@ use Rattle.fields.specs.Fields.{over, nextOf}
 use Rattle.rules.specs.Lists.{none}
 use Rattle.ledger.specs.declared.Ledger.{Ledger}
 use Rattle.replay.specs.declared.Front.{Front}
-use Rattle.replay.specs.declared.Front.the-variants.{End as AtEnd, Torn as TornFront, Full as NoRoom, Judged}
 use Rattle.replay.specs.declared.Ending.{Ending}
 use Rattle.replay.specs.declared.Ending.the-variants.{Whole, Torn as IsTorn, Full}
 use Rattle.replay.specs.declared.Ran.{Ran}
-use Rattle.replay.specs.Front.{answerTo, answerBytes}
+use Rattle.replay.specs.Front.{frontCode, answerTo, answerBytes}
 
 -- The records of a trace, and the rest behind them: nothing, or a torn record
 
@@ -74,12 +73,9 @@ pub record Replay : Type 0 where
 abbrev pub endingOf : Bool → List ℕ → Ending
 endingOf full rest = cond full Full (cond (none rest) Whole IsTorn)
 
--- the same by what becomes of the front of what is left, as the code asks; a judged one ends no run
+-- the same by what becomes of the front of what is left, as the code asks: by its number, which is then the ending's; a judged one ends no run
 abbrev pub endingAt : Front → Ending
-endingAt AtEnd = Whole
-endingAt TornFront = IsTorn
-endingAt NoRoom = Full
-endingAt (Judged n k) = Whole
+endingAt f = cond (eqb (frontCode f) 1) IsTorn (cond (eqb (frontCode f) 2) Full Whole)
 
 -- the bytes read are those of the records whose verdicts were written, the bytes written those of the verdicts
 abbrev pub replayed : Told → Cut → List ℕ → Replay
