@@ -17,7 +17,7 @@ use Rattle.rules.specs.Step.{code}
 use Rattle.rules.specs.Table.{nonzero}
 use Rattle.rules.proofs.Lists.{and-left, and-right}
 use Rattle.records.specs.Format.{bytesOf}
-use Rattle.records.specs.Verdicts.{verdictFormed, encodeVerdict, lastRow}
+use Rattle.verdicts.specs.Verdicts.{verdictFormed, encodeVerdict, lastRow}
 
 code-small : (a : Answer) (l : List ℕ) → verdictFormed a l ≡ true → code a < 256
 unfolding verdictFormed conj

@@ -6,7 +6,7 @@ use mathlib.Core.List.{List, _++_}
 use Prim.Native.Nat.{ℕ}
 use Rattle.rules.specs.declared.Answer.{Answer}
 use Rattle.rules.specs.Step.{code}
-use Rattle.records.specs.Verdicts.{verdictFormed, encodeVerdict}
+use Rattle.verdicts.specs.Verdicts.{verdictFormed, encodeVerdict}
 
 -- where some bytes start with the record of a verdict, the number is its code
 abbrev pub ShowsCode : List ℕ → ℕ → Type 0

@@ -5,13 +5,13 @@ ghost use lib.ListN.{length};
 ghost use Rattle.replay.specs.Replay.{cut};
 ghost use Rattle.console.specs.Code.{ShowsCode};
 use ledger::Ledger;
-use records::LONGEST_VERDICT;
 use replay::Front;
 use terminal::Input;
 use terminal::ROOM;
 use terminal::say;
 use terminal::say_error;
 use terminal::say_line;
+use verdicts::LONGEST_VERDICT;
 
 // A verdict's code stands behind the head of the record and that of its first field, a tag and a two-byte length each.
 const CODE_AT: usize = 6;

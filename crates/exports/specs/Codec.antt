@@ -18,10 +18,11 @@ use Rattle.records.specs.declared.KindRead.the-variants.{Known, Unknown}
 use Rattle.records.specs.declared.Reading.{Reading}
 use Rattle.records.specs.declared.Reading.the-variants.{Read, Malformed}
 use Rattle.records.specs.declared.StepRead.{StepRead}
-use Rattle.records.specs.declared.VerdictRead.{VerdictRead}
+use Rattle.verdicts.specs.declared.VerdictRead.{VerdictRead}
 use Rattle.records.specs.Steps.{decodeStep, stepRead}
-use Rattle.records.specs.Verdicts.{decodeVerdict, verdictRead}
-use Rattle.records.specs.Writing.{readingCode, writeCode, Writing, stepWriting, verdictWriting}
+use Rattle.verdicts.specs.Verdicts.{decodeVerdict, verdictRead}
+use Rattle.records.specs.Writing.{readingCode, writeCode, Writing, stepWriting}
+use Rattle.verdicts.specs.Verdicts.{verdictWriting}
 use Rattle.ledger_numbers.specs.Numbers.{roleNumber}
 use Rattle.exports.specs.declared.AnswerRead.{AnswerRead}
 use Rattle.exports.specs.declared.AnswerRead.the-variants.{Known as IsAnswer, Unknown as NoAnswer}

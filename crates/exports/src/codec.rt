@@ -280,7 +280,7 @@ pub extern "C" fn cuudhaqil_read_verdict(bytes: &[u8], numbers: &mut [u64], list
     if list.len() < PLACES {
         return NO_PLACE;
     }
-    let read = records::read_verdict(bytes);
+    let read = verdicts::read_verdict(bytes);
     let reading = read.reading;
     let Reading::Read = reading else {
         return MALFORMED;
@@ -335,5 +335,5 @@ pub extern "C" fn cuudhaqil_write_verdict(numbers: &[u64], list: &[u64], out: &m
     ledger_numbers::fill(&list[..PLACES], &mut objects);
     let l = ObjectList { count, objects };
     let verdict = Verdict { answer, list: l };
-    write_code(records::write_verdict(verdict, out))
+    write_code(verdicts::write_verdict(verdict, out))
 }

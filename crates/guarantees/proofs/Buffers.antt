@@ -32,18 +32,19 @@ use Rattle.records.specs.declared.Field.{Field}
 use Rattle.records.specs.declared.Reading.{Reading}
 use Rattle.records.specs.declared.Reading.the-variants.{Read, Malformed as NotRead}
 use Rattle.records.specs.declared.StepRead.{StepRead}
-use Rattle.records.specs.declared.VerdictRead.{VerdictRead}
+use Rattle.verdicts.specs.declared.VerdictRead.{VerdictRead}
 use Rattle.records.specs.declared.Write.{Write}
 use Rattle.records.specs.declared.Write.the-variants.{Written, Malformed, Full}
 use Rattle.records.specs.Format.{bytesOf, content, recordOf}
 use Rattle.records.specs.Steps.{decodeStep, encodeStep, fieldsOf, outerTag, stepRead}
-use Rattle.records.specs.Verdicts.{Decoded, IsVerdict, NoVerdict, canAnswer, decodeVerdict, encodeVerdict, verdictFields, verdictFormed, verdictRead, verdictTag}
-use Rattle.records.specs.Writing.{Writing, stepWriting, verdictWriting, writeCode, writing}
+use Rattle.verdicts.specs.Verdicts.{Decoded, IsVerdict, NoVerdict, canAnswer, decodeVerdict, encodeVerdict, verdictFields, verdictFormed, verdictRead, verdictTag}
+use Rattle.records.specs.Writing.{Writing, stepWriting, writeCode, writing}
+use Rattle.verdicts.specs.Verdicts.{verdictWriting}
 use Rattle.records.specs.RoundTrip.{allFit, areBytes}
 use Rattle.records.proofs.Listed.{step-long}
 use Rattle.records.proofs.RoundTripRecords.{below-all, empty, first-empty, rising-short}
 use Rattle.records.proofs.RoundTripSteps.{step-round-trip}
-use Rattle.records.proofs.RoundTripVerdicts.{verdict-round-trip}
+use Rattle.verdicts.proofs.RoundTrip.{verdict-round-trip}
 use Rattle.arrays.specs.Arrays.{pad}
 use Rattle.arrays.proofs.Lists.{length-pad, pad-laid}
 use Rattle.ledger.proofs.Names.{padded-pad}

@@ -10,7 +10,7 @@ use Rattle.rules.proofs.Rates.{looks, looks-from}
 use Rattle.rules.proofs.Raised.{old-verdicts-kept}
 use Rattle.rules.proofs.Depot.{out-of-order-holds, week-holds}
 use Rattle.records.proofs.RoundTripSteps.{step-round-trip}
-use Rattle.records.proofs.RoundTripVerdicts.{verdict-round-trip}
+use Rattle.verdicts.proofs.RoundTrip.{verdict-round-trip}
 use Rattle.objects.proofs.Words.{occupancy-by-words}
 use Rattle.manifests.proofs.Searching.{search-by-halves}
 use Rattle.manifests.proofs.Reaching.{reach-by-halves}

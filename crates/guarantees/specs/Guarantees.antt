@@ -7,7 +7,7 @@
 --   Ledger::is_sound      isSound                         Ledger::refuse_unreadable   judged, of Unreadable
 --   replay::step_record   frontStep                       replay::run     replayOf
 --   records::read_step    stepRead of decodeStep          records::write_step      stepWriting
---   records::read_verdict verdictRead of decodeVerdict    records::write_verdict   verdictWriting
+--   verdicts::read_verdict verdictRead of decodeVerdict    verdicts::write_verdict   verdictWriting
 --   store_names::read_name     decode                     store_names::write_name  writing
 --   sheets::read_sheet    decodeSheet                     sheets::write_sheet      sheetWriting
 --   desk::sell            saleOf                          desk::fill_card          cardOf and answerOf
@@ -45,12 +45,14 @@ use Rattle.rules.specs.Depot as depot
 use Rattle.rules.specs.OutOfOrder as outOfOrder
 use Rattle.records.specs.declared.Reading.the-variants.{Read}
 use Rattle.records.specs.declared.StepRead.{StepRead}
-use Rattle.records.specs.declared.VerdictRead.{VerdictRead}
+use Rattle.verdicts.specs.declared.VerdictRead.{VerdictRead}
 use Rattle.records.specs.declared.Write.the-variants.{Written, Malformed}
 use Rattle.records.specs.Steps.{fieldsOf, encodeStep, decodeStep, stepRead}
-use Rattle.records.specs.Verdicts.{verdictFields, verdictFormed, encodeVerdict, decodeVerdict, verdictRead, NoVerdict}
-use Rattle.records.specs.Writing.{Writing, stepWriting, verdictWriting}
-use Rattle.records.specs.RoundTrip.{allFit, areBytes, StepRoundTrip, VerdictRoundTrip}
+use Rattle.verdicts.specs.Verdicts.{verdictFields, verdictFormed, encodeVerdict, decodeVerdict, verdictRead, NoVerdict}
+use Rattle.records.specs.Writing.{Writing, stepWriting}
+use Rattle.verdicts.specs.Verdicts.{verdictWriting}
+use Rattle.records.specs.RoundTrip.{allFit, areBytes, StepRoundTrip}
+use Rattle.verdicts.specs.RoundTrip.{VerdictRoundTrip}
 use Rattle.objects.specs.Occupancy.{OccupancyByWords}
 use Rattle.manifests.specs.Search.{SearchByHalves}
 use Rattle.manifests.specs.Reach.{ReachByHalves}

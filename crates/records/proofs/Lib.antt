@@ -7,6 +7,4 @@ pub mod Listed
 pub mod WalkLaws
 pub mod RoundTripRecords
 pub mod RoundTripSteps
-pub mod RoundTripVerdicts
 pub mod Requests
-pub mod Replies

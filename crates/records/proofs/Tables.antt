@@ -9,8 +9,6 @@ use lib.ListN.{length, replicate}
 use lib.Seq.{take-append-seam}
 use Rattle.rules.specs.declared.Kind.{Kind}
 use Rattle.rules.specs.declared.Kind.the-variants.{Fence as FENCE, Put as PUT, Commit as COMMIT, Compact as COMPACT, Hold as HOLD, Renew as RENEW, Release as RELEASE, List as LIST, Look as LOOK, Collect as COLLECT}
-use Rattle.rules.specs.declared.Answer.{Answer}
-use Rattle.rules.specs.declared.Answer.the-variants.{Refused, Done, Epoch, Listed, Found, Collected}
 use Rattle.rules.specs.Lists.{all}
 use Rattle.records.specs.declared.Field.{Field}
 use Rattle.records.specs.declared.Fields.{Fields}
@@ -20,7 +18,6 @@ use Rattle.records.specs.Format.{mostFields, inner, recordOf, inPlaces}
 use Rattle.records.specs.Found.{fieldsIn, Placed, inNumbers, placedAll}
 use Rattle.records.specs.Walk.{Walked, Found as FieldsFound, Broken}
 use Rattle.records.specs.Steps.{fieldsOf, kindFrom, requestFrom, requestOfWalk}
-use Rattle.records.specs.Verdicts.{verdictFields, answerFrom, replyOfWalk}
 use Rattle.records.specs.Writing.{Writing, writing}
 use Rattle.records.proofs.Places.{padded-get}
 
@@ -44,15 +41,6 @@ step-placed t (LIST x) = record { places = refl; within = lit≤ tt; narrow = re
 step-placed t (LOOK c x) = record { places = refl; within = lit≤ tt; narrow = refl }
 step-placed t COLLECT = record { places = refl; within = lit≤ tt; narrow = refl }
 
-pub verdict-placed : (a : Answer) → Placed (inPlaces (verdictFields a))
-unfolding all
-verdict-placed (Refused n) = record { places = refl; within = lit≤ tt; narrow = refl }
-verdict-placed Done = record { places = refl; within = lit≤ tt; narrow = refl }
-verdict-placed (Epoch e) = record { places = refl; within = lit≤ tt; narrow = refl }
-verdict-placed (Listed m) = record { places = refl; within = lit≤ tt; narrow = refl }
-verdict-placed (Found n) = record { places = refl; within = lit≤ tt; narrow = refl }
-verdict-placed Collected = record { places = refl; within = lit≤ tt; narrow = refl }
-
 -- ---- numbers in their places say what they say
 
 kind-placed : (tag : ℕ) (v : List ℕ) (k : ℕ) → kindFrom tag (v ++ replicate k 0) ≡ kindFrom tag v
@@ -66,15 +54,3 @@ request-placed tag (FieldsFound v l) = rw (kind-placed tag v (mostFields - lengt
     by : (k : KindRead) → requestFrom (inNumbers v) l k ≡ requestFrom v l k
     by Unknown = refl
     by (Known k) = rw (padded-get v (mostFields - length v) 0)
-
-answer-placed : (shape : Answer) (v : List ℕ) (k : ℕ) → answerFrom shape (v ++ replicate k 0) ≡ answerFrom shape v
-answer-placed (Refused n) v k = simp padded-get
-answer-placed Done v k = simp padded-get
-answer-placed (Epoch e) v k = simp padded-get
-answer-placed (Listed m) v k = simp padded-get
-answer-placed (Found n) v k = simp padded-get
-answer-placed Collected v k = refl
-
-pub reply-placed : (shape : Answer) (w : Walked) → replyOfWalk shape (placedAll w) ≡ replyOfWalk shape w
-reply-placed shape Broken = refl
-reply-placed shape (FieldsFound v l) = rw (answer-placed shape v (mostFields - length v), padded-get v (mostFields - length v) 0)

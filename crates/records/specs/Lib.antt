@@ -2,6 +2,5 @@ pub mod Format
 pub mod Walk
 pub mod Found
 pub mod Steps
-pub mod Verdicts
 pub mod Writing
 pub mod RoundTrip

@@ -7,16 +7,12 @@ use Prim.Native.Nat.{ℕ, _^_, _≤_}
 use lib.Dec.{ltb}
 use lib.ListN.{length}
 use Rattle.rules.specs.declared.Kind.{Kind}
-use Rattle.rules.specs.declared.Answer.{Answer}
-use Rattle.rules.specs.declared.Answer.the-variants.{Collected}
 use Rattle.rules.specs.Lists.{all}
 use Rattle.rules.specs.Limits.{limits}
 use Rattle.rules.specs.Table.{wellFormed}
 use Rattle.rules.specs.Request.{Asked, Unreadable}
-use Rattle.rules.specs.Step.{longestVerdict}
 use Rattle.records.specs.declared.Field.{Field}
 use Rattle.records.specs.Steps.{fieldsOf, encodeStep, longestStep, decodeStep}
-use Rattle.records.specs.Verdicts.{verdictFields, verdictFormed, encodeVerdict, decodeVerdict, IsVerdict, NoVerdict}
 
 -- a field's number fits its width, and a list's numbers fit 64 bits
 abbrev pub fits : Field → Bool
@@ -40,14 +36,3 @@ pub record StepRoundTrip : Type 0 where
   -- no step's record is longer than a COMMIT's with all the names of a manifest
   pub longest : (t : ℕ) (k : Kind) (l : List ℕ) → wellFormed limits t k l ≡ true → length (encodeStep t k l) ≤ longestStep
   pub longestIs : longestStep ≡ 551
-
-pub record VerdictRoundTrip : Type 0 where
-  pub readsWritten : (a : Answer) (l : List ℕ) → verdictFormed a l ≡ true → allFit (verdictFields a) l ≡ true → decodeVerdict (encodeVerdict a l) ≡ IsVerdict a l
-  pub writesRead : (bs : List ℕ) (a : Answer) (l : List ℕ) → areBytes bs ≡ true → decodeVerdict bs ≡ IsVerdict a l
-      → (verdictFormed a l ≡ true) × (allFit (verdictFields a) l ≡ true) × (encodeVerdict a l ≡ bs)
-  pub refuses : (bs : List ℕ) → areBytes bs ≡ true → ((a : Answer) (l : List ℕ) → verdictFormed a l ≡ true → allFit (verdictFields a) l ≡ true → encodeVerdict a l ≡ bs → ⊥)
-      → decodeVerdict bs ≡ NoVerdict
-  -- "the longest verdict becomes 2,058 bytes" (document 02, request 4): none is longer, and every place collected makes one that is as long
-  pub longest : (a : Answer) (l : List ℕ) → verdictFormed a l ≡ true → length (encodeVerdict a l) ≤ longestVerdict
-  pub met : (l : List ℕ) → length l ≡ limits .places → length (encodeVerdict Collected l) ≡ longestVerdict
-  pub longestIs : longestVerdict ≡ 2058

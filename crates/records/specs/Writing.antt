@@ -8,14 +8,12 @@ use lib.Dec.{ltb}
 use lib.ListN.{length}
 use Rattle.fields.specs.Fields.{over}
 use Rattle.rules.specs.declared.Step.{Step}
-use Rattle.rules.specs.declared.Verdict.{Verdict}
-use Rattle.rules.specs.Typed.{requestOf, canSay, namesOf, objectsOf}
+use Rattle.rules.specs.Typed.{requestOf, canSay, namesOf}
 use Rattle.records.specs.declared.Reading.{Reading}
 use Rattle.records.specs.declared.Reading.the-variants.{Read, Malformed as NotRead}
 use Rattle.records.specs.declared.Write.{Write}
 use Rattle.records.specs.declared.Write.the-variants.{Written, Malformed, Full}
 use Rattle.records.specs.Steps.{encodeStep}
-use Rattle.records.specs.Verdicts.{encodeVerdict, canAnswer}
 
 -- "answer 2 for a malformed input", else 0
 abbrev pub readingCode : Reading → ℕ
@@ -41,6 +39,3 @@ writing taken bytes buffer =
 
 abbrev pub stepWriting : Step → List ℕ → Writing
 stepWriting p buffer = writing (canSay (requestOf p)) (encodeStep (p .time) (p .kind) (namesOf (p .list))) buffer
-
-abbrev pub verdictWriting : Verdict → List ℕ → Writing
-verdictWriting v buffer = writing (canAnswer v) (encodeVerdict (v .answer) (objectsOf (v .list))) buffer

@@ -1,31 +1,30 @@
-// Step and verdict records (document 01, "Records and names"): read and written, each undoing the other.
+// Step records, and what any record is made of (document 01, "Records and names"): read and written, each undoing the other.
 mod format;
 mod steps;
-mod verdicts;
 mod walking;
 mod writing;
 
 use rules::Kind;
 use rules::Step;
-use rules::Verdict;
 // For records of crates above: fields of the table, and what reads and writes any record.
+pub use format::code;
 pub use format::currency;
+pub use format::epoch;
 pub use format::four;
+pub use format::list;
+pub use format::manifest;
 pub use format::object;
+pub use format::one;
+pub use format::three;
+pub use format::two;
 pub use steps::read_step;
 pub use steps::write_step;
-pub use verdicts::read_verdict;
-pub use verdicts::write_verdict;
 pub use walking::is_whole;
 pub use walking::walk as walk_fields;
 pub use writing::write_record;
 
 // How many inner fields a record has at most.
 pub const FIELDS: usize = 6;
-
-// The bytes of the longest verdict, every place collected: a tag and a length for the record and for each of its two fields,
-// one for the code, eight for an object's number.
-pub const LONGEST_VERDICT: usize = 3 * 3 + 1 + 8 * rules::PLACES;
 
 // An inner field: its tag and its number in so many bytes. Width 0 is the list, which stands beside the fields.
 pub struct Field {
@@ -77,12 +76,6 @@ pub enum Reading {
 pub struct StepRead {
     pub reading: Reading,
     pub step: Step,
-}
-
-// The verdict beside Malformed is Done.
-pub struct VerdictRead {
-    pub reading: Reading,
-    pub verdict: Verdict,
 }
 
 // What a record writer answers: the count of bytes, the paper's number 2 for what no reader takes, or that room is short.

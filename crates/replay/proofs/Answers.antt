@@ -26,9 +26,9 @@ use Rattle.fields.specs.Fields.{nextOf}
 use Rattle.fields.proofs.Fields.{length-field, next-field}
 use Rattle.records.specs.Format.{bytesOf}
 use Rattle.records.specs.Steps.{decodeStep}
-use Rattle.records.specs.Verdicts.{canAnswer, encodeVerdict, verdictFields, verdictFormed, verdictTag}
-use Rattle.records.proofs.Replies.{verdict-long}
-use Rattle.records.proofs.RoundTripVerdicts.{verdict-round-trip}
+use Rattle.verdicts.specs.Verdicts.{canAnswer, encodeVerdict, verdictFields, verdictFormed, verdictTag}
+use Rattle.verdicts.proofs.Replies.{verdict-long}
+use Rattle.verdicts.proofs.RoundTrip.{verdict-round-trip}
 use Rattle.records.proofs.WalkLaws.{length-bytes, total}
 use Rattle.ledger.specs.declared.Ledger.{Ledger}
 use Rattle.ledger.specs.Ledger.{lay, view, isSound}

@@ -21,7 +21,7 @@ use Rattle.rules.specs.Typed.{verdictOf}
 use Rattle.rules.proofs.Commit.{commit-exact}
 use Rattle.rules.proofs.Lists.{and-both, and-left}
 use Rattle.records.specs.Steps.{decodeStep}
-use Rattle.records.specs.Verdicts.{encodeVerdict}
+use Rattle.verdicts.specs.Verdicts.{encodeVerdict}
 use Rattle.ledger.specs.declared.Ledger.{Ledger}
 use Rattle.ledger.specs.declared.StepAnswer.{StepAnswer}
 use Rattle.ledger.specs.Ledger.{lay, view, isSound}

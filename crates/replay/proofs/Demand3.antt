@@ -20,7 +20,7 @@ use Rattle.rules.proofs.Lists.{decide}
 use Rattle.rules.proofs.Raised.{old-verdicts-kept}
 use Rattle.rules.proofs.Soundness.{sound-fresh, next-sound}
 use Rattle.records.specs.Steps.{decodeStep}
-use Rattle.records.specs.Verdicts.{encodeVerdict}
+use Rattle.verdicts.specs.Verdicts.{encodeVerdict}
 use Rattle.ledger.specs.declared.Ledger.{Ledger}
 use Rattle.ledger.specs.Ledger.{lay}
 use Rattle.ledger.specs.Demand3.{verdictSize, keptAfter, ledgerAfter}

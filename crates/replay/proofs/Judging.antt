@@ -14,7 +14,8 @@ use Rattle.records.specs.declared.Write.{Write}
 use Rattle.records.specs.declared.Write.the-variants.{Written, Malformed, Full as Short}
 use Rattle.records.proofs.Write as write
 use Rattle.records.specs.Steps.{decodeStep}
-use Rattle.records.specs.Writing.{Writing, verdictWriting}
+use Rattle.records.specs.Writing.{Writing}
+use Rattle.verdicts.specs.Verdicts.{verdictWriting}
 use Rattle.ledger.specs.declared.Ledger.{Ledger}
 use Rattle.ledger.specs.declared.StepAnswer.{StepAnswer}
 use Rattle.replay.specs.declared.Front.the-variants.{Full, Judged}

@@ -22,7 +22,7 @@ use Rattle.rules.specs.Step.{Reply, alone, answers, collected, granted, reply, 
 use Rattle.rules.proofs.Lists.{and-both, and-left, and-right, keep-in, true-conj}
 use Rattle.rules.proofs.Numbers.{rising-above}
 use Rattle.rules.proofs.Table.{Clear, clear-of, rowNumbers, rows-rising}
-use Rattle.records.specs.Verdicts.{lastRow, risingList, verdictFormed}
+use Rattle.verdicts.specs.Verdicts.{lastRow, risingList, verdictFormed}
 use Rattle.ledger.specs.declared.Ledger.{Ledger}
 use Rattle.ledger.specs.Ledger.{view, isSound}
 use Rattle.ledger.proofs.View.{sound-shape}

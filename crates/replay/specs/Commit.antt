@@ -15,7 +15,7 @@ use Rattle.rules.specs.Step.{alone, effect}
 use Rattle.rules.specs.Typed.{verdictOf}
 use Rattle.rules.specs.Verdict.{MayCommit}
 use Rattle.records.specs.Steps.{decodeStep}
-use Rattle.records.specs.Verdicts.{encodeVerdict}
+use Rattle.verdicts.specs.Verdicts.{encodeVerdict}
 use Rattle.ledger.specs.declared.Ledger.{Ledger}
 use Rattle.ledger.specs.Ledger.{lay, view, isSound}
 use Rattle.replay.specs.declared.Front.the-variants.{Judged}

@@ -14,7 +14,7 @@ use Rattle.rules.specs.Request.{Ask}
 use Rattle.rules.specs.Step.{Reply, size}
 use Rattle.rules.specs.Raised.{neverMet, repliesFrom}
 use Rattle.records.specs.Steps.{decodeStep}
-use Rattle.records.specs.Verdicts.{encodeVerdict}
+use Rattle.verdicts.specs.Verdicts.{encodeVerdict}
 use Rattle.ledger.specs.declared.Ledger.{Ledger}
 use Rattle.ledger.specs.Ledger.{lay}
 use Rattle.ledger.specs.Demand3.{ledgerAfter, Delivered}

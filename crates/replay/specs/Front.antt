@@ -11,7 +11,7 @@ use Rattle.fields.specs.Fields.{over, nextOf}
 use Rattle.rules.specs.declared.Verdict.{Verdict}
 use Rattle.rules.specs.Typed.{objectsOf}
 use Rattle.records.specs.Steps.{decodeStep}
-use Rattle.records.specs.Verdicts.{encodeVerdict}
+use Rattle.verdicts.specs.Verdicts.{encodeVerdict}
 use Rattle.ledger.specs.declared.Ledger.{Ledger}
 use Rattle.ledger.specs.declared.StepAnswer.{StepAnswer}
 use Rattle.ledger.specs.Step.{judged}

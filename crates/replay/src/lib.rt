@@ -64,7 +64,7 @@ fn judge_record(before: Ledger, bytes: &[u8], out: &mut [u8]) -> Stepped
     let verdict = answer.verdict;
     let next = answer.ledger;
     let read = bytes.len();
-    let write = records::write_verdict(verdict, out);
+    let write = verdicts::write_verdict(verdict, out);
     // a step's verdict is never malformed: it has no room
     let Write::Written(written) = write else {
         return Stepped {

@@ -9,7 +9,7 @@ use lib.Seq.{length-take-le}
 use Rattle.ledger_numbers.proofs.Over.{over-all}
 use borrow.Author.Tests.{lt-ltb, le-ltb}
 use Rattle.rules.specs.Limits.{limits}
-use Rattle.records.specs.Writing.{verdictWriting}
+use Rattle.verdicts.specs.Verdicts.{verdictWriting}
 use Rattle.exports.specs.Codec.{verdictSize, written, writeVerdict}
 use Rattle.exports.proofs.codec.cuudhaqil_write_verdict.Statement.{statement}
 use Rattle.exports.proofs.codec.cuudhaqil_write_verdict.Tie as tie
