@@ -7,7 +7,7 @@
 --   Ledger::is_sound      isSound                         Ledger::refuse_unreadable   judged, of Unreadable
 --   replay::step_record   frontStep                       replay::run     replayOf
 --   records::read_step    stepRead of decodeStep          records::write_step      stepWriting
---   verdicts::read_verdict verdictRead of decodeVerdict    verdicts::write_verdict   verdictWriting
+--   verdicts::read_verdict verdictRead of decodeVerdict   verdicts::write_verdict  verdictWriting
 --   store_names::read_name     decode                     store_names::write_name  writing
 --   sheets::read_sheet    decodeSheet                     sheets::write_sheet      sheetWriting
 --   desk::sell            saleOf                          desk::fill_card          cardOf and answerOf
