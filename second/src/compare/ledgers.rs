@@ -352,8 +352,10 @@ pub fn compare_sequence(
             counts.add_damage(&numbers, &before);
         }
         let step = asked(random, &guide.next(&ledger), course);
-        count(&mut counts.soundness, compare_told(random, &before, first, second)?);
-        counts.widened += usize::from(is_widened(&before));
+        if damaged || random.once_in(10) {
+            count(&mut counts.soundness, compare_told(random, &before, first, second)?);
+        }
+        counts.widened += usize::from(damaged && is_widened(&before));
         let left = compare_step(random, &before, &step, first, second)?;
         counts.steps += 1;
         count(&mut counts.answers, left.answer);
