@@ -2,10 +2,10 @@
 //! at the repository's root: what they print, and the status they end with.
 
 use std::env;
+use std::ffi::OsStr;
 use std::fs::{self, File, OpenOptions};
 use std::io::{BufRead, BufReader, Write};
 use std::os::fd::OwnedFd;
-use std::os::unix::fs::PermissionsExt;
 use std::os::unix::net::{UnixListener, UnixStream};
 use std::path::{Path, PathBuf};
 use std::process::{self, Command, Output, Stdio};
@@ -255,6 +255,13 @@ fn a_closed_pipe_is_told() {
     }
 }
 
+/// Writes by another process: a file that is run must not be open for writing
+/// in this one, where a test beside may start a process that has it too.
+fn by_shell(command: &str, one: &OsStr, other: &Path) {
+    let done = Command::new("sh").args(["-c", command, "sh"]).arg(one).arg(other).status();
+    assert!(done.expect("there is a shell").success(), "{command}");
+}
+
 /// A repository of its own with the scripts, three crates and a stand-in for
 /// `rt`, which is run in it.
 fn repository(name: &str, rt: &str) -> PathBuf {
@@ -264,13 +271,13 @@ fn repository(name: &str, rt: &str) -> PathBuf {
         fs::create_dir_all(folder.join(made)).expect("the folder is cargo's");
     }
     for script in ["judge", "program.sh"] {
-        fs::copy(root().join(script), folder.join(script)).expect("the script is there");
+        by_shell("cp -p \"$1\" \"$2\"", root().join(script).as_os_str(), &folder.join(script));
     }
     fs::write(folder.join("crates.txt"), "rules:\nconsole: rules io libc\njudge: console\n")
         .expect("the folder is cargo's");
-    let stand_in = folder.join("bin/rt");
-    fs::write(&stand_in, format!("#!/bin/sh\n{rt}")).expect("the folder is cargo's");
-    fs::set_permissions(&stand_in, PermissionsExt::from_mode(0o755)).expect("it is ours");
+    let stand_in = format!("#!/bin/sh\n{rt}");
+    let made = "printf %s \"$1\" > \"$2\" && chmod 755 \"$2\"";
+    by_shell(made, OsStr::new(&stand_in), &folder.join("bin/rt"));
     folder
 }
 
