@@ -1,13 +1,13 @@
 /* The calls of target/staticlib/libexports.a (crates/exports). Each is proved to keep what its comment says, for every
- * argument that keeps what is said here: a slice is a pointer to its first element and the number of its elements,
- * at a non-null aligned pointer even where there are none, and a slice that is written overlaps no other.
+ * argument that keeps what is said here: a slice is a pointer to its first element and the number of its elements, at
+ * a non-null aligned pointer even where there are none, and a slice that is written overlaps no other.
  *
- * A call keeps nothing between calls and reads and writes only what it is lent, so calls may run in several threads at a time
- * on slices of their own. It needs at most CUUDHAQIL_STACK bytes of the thread's stack (measured, not proved).
+ * A call keeps nothing between calls and reads and writes only what it is lent, so calls may run in several threads at
+ * a time on slices of their own. It needs at most CUUDHAQIL_STACK bytes of the thread's stack (measured, not proved).
  *
- * Numbers are the machine's own 64-bit numbers. A ledger that is kept as numbers, in a file say, is kept in the byte order of
- * the machine that wrote it, and goes with this version of the header: a later one may have more numbers, in another order
- * (CUUDHAQIL_VERSION, cuudhaqil_version). Whoever keeps it for longer writes down the version beside it. */
+ * Numbers are the machine's own 64-bit numbers. A ledger that is kept as numbers, in a file say, is kept in the byte
+ * order of the machine that wrote it, and goes with this version of the header: a later one may have more numbers, in
+ * another order (CUUDHAQIL_VERSION, cuudhaqil_version). Whoever keeps it for longer writes down the version beside it. */
 #ifndef CUUDHAQIL_H
 #define CUUDHAQIL_H
 
@@ -18,9 +18,9 @@
 extern "C" {
 #endif
 
-/* The version, 1,000,000 for the base, 1,000 for each later request and one for each change after it; the bytes of stack that
- * any call needs. What a caller lends, in elements: places for a step's list and for a verdict's, a ledger, what is told of
- * the current manifest; and in bytes what holds any step's and any verdict's record. */
+/* The version, 1,000,000 for the base, 1,000 for each later request and one for each change after it; the bytes of
+ * stack that any call needs. What a caller lends, in elements: places for a step's list and for a verdict's, a ledger,
+ * what is told of the current manifest; and in bytes what holds any step's and any verdict's record. */
 enum {
     CUUDHAQIL_VERSION = 1005000,
     CUUDHAQIL_STACK = 262144,
@@ -57,7 +57,8 @@ enum {
 /* The version of the calls, CUUDHAQIL_VERSION where header and archive belong together. */
 uint64_t cuudhaqil_version(void);
 
-/* Store names, with their folders: "manifest/", 20 decimal digits and ".manifest"; "wal/", 20 decimal digits and ".sst". */
+/* Store names, with their folders: "manifest/", 20 decimal digits and ".manifest"; "wal/", 20 decimal digits and
+ * ".sst". */
 
 /* Reads all the bytes as one name.
  * 0: a manifest's name, 1: an object's; number[0] is its number, and the elements beyond it stay.
@@ -81,9 +82,9 @@ uint64_t cuudhaqil_next_record(const uint8_t *trace, size_t trace_len);
 /* A step is eleven numbers with 64 places for COMMIT's list beside them:
  * numbers[0] kind: 0 FENCE, 1 PUT, 2 COMMIT, 3 COMPACT, 4 HOLD, 5 RENEW, 6 RELEASE, 7 LIST, 8 LOOK, 9 COLLECT;
  * [1] time, [2] role (0 writer, 1 compactor), [3] epoch, [4] slot, [5] object, [6] currency, [7] hold, [8] manifest,
- * [9] expiry, [10] how long the list is. Numbers that the kind does not have play no part, but the list does beside every
- * kind: a list beside another kind than COMMIT, a length above 64, or a place behind the list's end that is not 0 make a step
- * that no record can say. */
+ * [9] expiry, [10] how long the list is. Numbers that the kind does not have play no part, but the list does beside
+ * every kind: a list beside another kind than COMMIT, a length above 64, or a place behind the list's end that is not
+ * 0 make a step that no record can say. */
 
 /* Reads all the bytes as one step record.
  * 0: read; the eleven numbers, 0 for what the kind does not have, and the list's 64 places, 0 beyond its end.
@@ -113,12 +114,12 @@ uint64_t cuudhaqil_read_verdict(const uint8_t *record, size_t record_len, uint64
 uint64_t cuudhaqil_write_verdict(const uint64_t *numbers, size_t numbers_len, const uint64_t *list, size_t list_len,
                                  uint8_t *out, size_t out_len);
 
-/* A ledger is 1,924 numbers: clock, the highest object number ever collected, the four occupancy words (bit i of word k, both
- * counted from 0, is place 64 k + i), 256 places of five (number, role, epoch, currency, named), the count of manifests and
- * nine places of 68 (number, writer epoch, compactor epoch, count, 64 names), the count of holds and eight places of three
- * (number, manifest, expiry). Any numbers may be lent. Those that no ledger can be (a role or a mark above 1, a currency above
- * 65,535) are a ledger that is not sound, as are a count that fits no place and all else that breaks the rules. A refusal
- * leaves the numbers as they are, bit for bit. */
+/* A ledger is 1,924 numbers: clock, the highest object number ever collected, the four occupancy words (bit i of word
+ * k, both counted from 0, is place 64 k + i), 256 places of five (number, role, epoch, currency, named), the count of
+ * manifests and nine places of 68 (number, writer epoch, compactor epoch, count, 64 names), the count of holds and
+ * eight places of three (number, manifest, expiry). Any numbers may be lent. Those that no ledger can be (a role or a
+ * mark above 1, a currency above 65,535) are a ledger that is not sound, as are a count that fits no place and all
+ * else that breaks the rules. A refusal leaves the numbers as they are, bit for bit. */
 
 /* Lays the fresh ledger over the first 1,924 elements; those beyond stay.
  * 0: done. 3: there are fewer; the slice stays. */
@@ -135,15 +136,16 @@ uint64_t cuudhaqil_current(const uint64_t *ledger, size_t ledger_len, uint64_t *
 
 /* The step (eleven numbers and 64 places, as cuudhaqil_read_step gives them) on the ledger.
  * 0: ledger is the next ledger, verdict its three numbers and objects the 256 places of its list, as
- *    cuudhaqil_read_verdict gives them; a refusal leaves the ledger's numbers as they are. Numbers that say no kind, a role
- *    above 1 or a currency of more than 16 bits are refused with 2, or with 1 where the ledger is not sound, as bytes are that
- *    are no step. Elements beyond these stay.
+ *    cuudhaqil_read_verdict gives them; a refusal leaves the ledger's numbers as they are. Numbers that say no kind, a
+ *    role above 1 or a currency of more than 16 bits are refused with 2, or with 1 where the ledger is not sound, as
+ *    bytes are that are no step. Elements beyond these stay.
  * 3: a slice is too short (ledger 1,924, numbers 11, list 64, verdict 3, objects 256); this goes first, and all stay. */
 uint64_t cuudhaqil_step(uint64_t *ledger, size_t ledger_len, const uint64_t *numbers, size_t numbers_len,
                         const uint64_t *list, size_t list_len, uint64_t *verdict, size_t verdict_len, uint64_t *objects,
                         size_t objects_len);
 
-/* Runs a trace on the fresh ledger: each step record is judged as cuudhaqil_step does, any other record is refused with 2.
+/* Runs a trace on the fresh ledger: each step record is judged as cuudhaqil_step does, any other record is refused
+ * with 2.
  * 0: whole, 1: torn, 2: full; counts[0] is the bytes read, counts[1] the bytes written (a torn record, or one whose
  *    verdict has no room, is not counted). The verdicts stand at the start of out one behind the other, and the bytes
  *    beyond them stay; so do elements of counts beyond the first two.

@@ -1,6 +1,6 @@
-/* The sale desk: the calls of target/staticlib/libdesk_exports.a (crates/desk_exports), beside those of cuudhaqil.h and
- * under the same terms. A ledger is its 1,924 numbers, as cuudhaqil_fresh and cuudhaqil_step of cuudhaqil.h give them; others are not sound: 1. A
- * currency above 65,535 is taken as 65,535, which no sheet has. */
+/* The sale desk: the calls of target/staticlib/libdesk_exports.a (crates/desk_exports), beside those of cuudhaqil.h
+ * and under the same terms. A ledger is its 1,924 numbers, as cuudhaqil_fresh and cuudhaqil_step of cuudhaqil.h give
+ * them; others are not sound: 1. A currency above 65,535 is taken as 65,535, which no sheet has. */
 #ifndef CUUDHAQIL_DESK_H
 #define CUUDHAQIL_DESK_H
 
@@ -35,10 +35,10 @@ uint64_t cuudhaqil_write_sheet(const uint64_t *numbers, size_t numbers_len, uint
 uint64_t cuudhaqil_sell(uint64_t *ledger, size_t ledger_len, uint64_t time, const uint8_t *sheet, size_t sheet_len,
                         uint64_t currency, uint64_t hold, uint64_t fare, uint64_t *sale, size_t sale_len);
 
-/* Fills in the first count entries of a route card, in order, each by one look. The card has three numbers for each entry,
- * currency, code and object, and at most 64 entries; numbers behind its last whole entry stay.
- * 0: each of these entries has its look's code and object (0 if refused), its currency stays, and ledger is the one after
- *    the last look. Entries beyond the count stay.
+/* Fills in the first count entries of a route card, in order, each by one look. The card has three numbers for each
+ * entry, currency, code and object, and at most 64 entries; numbers behind its last whole entry stay.
+ * 0: each of these entries has its look's code and object (0 if refused), its currency stays, and ledger is the one
+ *    after the last look. Entries beyond the count stay.
  * 2: count is above the whole entries that the card has; all stay.
  * 3: ledger has fewer than 1,924 elements or card more than 64 whole entries; this goes first, and all stay. */
 uint64_t cuudhaqil_fill_card(uint64_t *ledger, size_t ledger_len, uint64_t time, uint64_t hold, uint64_t count,
