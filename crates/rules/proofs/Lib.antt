@@ -30,3 +30,5 @@ pub mod Laws
 pub mod Typed
 pub mod Wider
 pub mod Raised
+pub mod Compaction
+pub mod Struck

@@ -90,7 +90,7 @@ module _ {L : Limits} (s : State) (h : History) (r : Agrees L s h) (t : ℕ) (la
       step false p true q e = held-read x p q
       step false p false q e = absurd (true-false true refl e)
 
-  rates-same : (c x : ℕ) → (nonzero x && not (isLive t s x)) ≡ false → ofCurrency s c (readBy t s x .names) ≡ ratesAt t h c x
+  pub rates-same : (c x : ℕ) → (nonzero x && not (isLive t s x)) ≡ false → ofCurrency s c (readBy t s x .names) ≡ ratesAt t h c x
   unfolding ofCurrency ratesAt
   rates-same c x e =
       let k = read x e in
@@ -100,7 +100,7 @@ module _ {L : Limits} (s : State) (h : History) (r : Agrees L s h) (t : ℕ) (la
 -- ---- the rows of a LOOK
 
 -- the first of the rows, as the history writes it
-chain : (a b d e : Bool) (n : ℕ) → let v = firstOf ((1 if false) ∷ (2 if a) ∷ (3 if b) ∷ (15 if d) ∷ (16 if e) ∷ []) in
+pub chain : (a b d e : Bool) (n : ℕ) → let v = firstOf ((1 if false) ∷ (2 if a) ∷ (3 if b) ∷ (15 if d) ∷ (16 if e) ∷ []) in
     cond (eqb v 0) (alone (Found n)) (alone (Refused v)) ≡ alone (cond a (Refused 2) (cond b (Refused 3) (cond d (Refused 15) (cond e (Refused 16) (Found n)))))
 unfolding firstOf
 chain true b d e n = refl

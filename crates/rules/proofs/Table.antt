@@ -15,7 +15,7 @@ use Rattle.rules.specs.Limits.{Limits}
 use Rattle.rules.specs.Lists.{_∈_, none, risingAbove}
 use Rattle.rules.specs.Request.{Ask, Asked, Request, Unreadable}
 use Rattle.rules.specs.State.{State}
-use Rattle.rules.specs.Step.{accepts, alone, granted, next, reply, rowsOf, verdict}
+use Rattle.rules.specs.Step.{accepts, alone, answers, code, granted, next, reply, rowsOf, settle, verdict}
 use Rattle.rules.specs.Table.{Row, firstOf, rows}
 use Rattle.rules.specs.Verdict.{RefusalKeeps, Smallest, VerdictSmallest}
 use Rattle.rules.proofs.Lists.{and-left, and-right, true-false}
@@ -197,3 +197,21 @@ module _ (L : Limits) (test : State → Bool) where
   unfolding reply accepts
   granted-reply s a e =
       ap (λ b. cond b (granted (a .request) s) (alone (Refused (verdict L test s (a .request))))) (and-left (eqb (verdict L test s (a .request)) 0) _ e)
+
+-- what an accepted request is answered has code 0
+answers-code : (k : Kind) (s : State) → code (answers k s .answer) ≡ 0
+unfolding answers
+answers-code (FENCE r slot) s = refl
+answers-code (PUT r e n c) s = refl
+answers-code (COMMIT e slot) s = refl
+answers-code (COMPACT e slot n) s = refl
+answers-code (HOLD x m e) s = refl
+answers-code (RENEW x e) s = refl
+answers-code (RELEASE x) s = refl
+answers-code (LIST x) s = refl
+answers-code (LOOK c x) s = refl
+answers-code COLLECT s = refl
+
+pub granted-code : (q : Request) (s : State) → code (granted q s .answer) ≡ 0
+granted-code (Asked t k l) s = answers-code k (settle t s)
+granted-code Unreadable s = refl

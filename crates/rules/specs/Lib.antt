@@ -16,3 +16,5 @@ pub mod WriteOnce
 pub mod OutOfOrder
 pub mod Rates
 pub mod Raised
+pub mod Compaction
+pub mod Struck
