@@ -12,6 +12,7 @@ use Rattle.ledger.specs.declared.Ledger.{Ledger}
 use Rattle.ledger.specs.declared.StepAnswer.{StepAnswer}
 use Rattle.ledger.specs.Ledger.{isSound}
 use Rattle.ledger.specs.Step.{judged}
+use Rattle.ledger.proofs.AnyLedger.{number-refused, judged-unsound}
 use Rattle.ledger_numbers.specs.Numbers.{ledgerSize, ledgerFrom, laidBack}
 use Rattle.ledger_numbers.proofs.Exact.{numbers-exact}
 use Rattle.records.specs.Steps.{decodeStep}
@@ -25,7 +26,6 @@ use Rattle.exports.specs.Ledgers.{requestOf as requestIn, step, stepped, untouc
 use Rattle.exports.specs.Runs.{runOn, RunOnCall, calledOn, untouchedOn}
 use Rattle.desk_exports.specs.Calls.{narrow, sell, SaleCall, told, unsold}
 use Rattle.guarantees.specs.Guarantees.{numberOn}
-use Rattle.guarantees.proofs.AnyLedger.{number-refused, judged-unsound}
 
 -- where the slice is long enough, what a call leaves of an unchanged ledger is the slice
 back : (ledger : List ℕ) (l : Ledger) → ledgerSize ≤ length ledger → l ≡ ledgerFrom ledger → laidBack l ledger ≡ ledger

@@ -17,11 +17,11 @@ use Rattle.records.specs.Steps.{decodeStep}
 use Rattle.ledger.specs.declared.Ledger.{Ledger}
 use Rattle.ledger.specs.declared.StepAnswer.{StepAnswer}
 use Rattle.ledger.specs.Step.{judged}
+use Rattle.ledger.proofs.AnyLedger.{number-refused, no-step-refused}
 use Rattle.replay.specs.declared.Front.{Front}
 use Rattle.replay.specs.declared.Front.the-variants.{Full}
 use Rattle.replay.specs.Front.{answerBytes, frontCode, Judgement, unchanged, judgedWith, recordStep, stepAt, frontStep}
 use Rattle.guarantees.specs.Guarantees.{numberOn}
-use Rattle.guarantees.proofs.AnyLedger.{number-refused, no-step-refused}
 
 module _ (l : Ledger) (bytes out : List ℕ) where
   pub refused-record : (numberOn l (decodeStep bytes) ≡ 0 → ⊥) → recordStep l bytes out .answer .ledger ≡ l

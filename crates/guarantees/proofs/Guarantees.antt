@@ -8,12 +8,15 @@ use Rattle.rules.proofs.Whole.{whole}
 use Rattle.rules.proofs.WriteOnce.{last-collected, write-once}
 use Rattle.rules.proofs.Rates.{looks, looks-from}
 use Rattle.rules.proofs.Raised.{old-verdicts-kept}
+use Rattle.rules.proofs.Compaction.{compactions, compactions-from, compactions-of}
+use Rattle.rules.proofs.Struck.{strikes}
 use Rattle.rules.proofs.Depot.{out-of-order-holds, week-holds}
 use Rattle.records.proofs.RoundTripSteps.{step-round-trip}
 use Rattle.verdicts.proofs.RoundTrip.{verdict-round-trip}
 use Rattle.objects.proofs.Words.{occupancy-by-words}
 use Rattle.manifests.proofs.Searching.{search-by-halves}
 use Rattle.manifests.proofs.Reaching.{reach-by-halves}
+use Rattle.ledger.proofs.AnyLedger.{no-step, number-accepted, number-refused, one-number}
 use Rattle.ledger.proofs.SoundLaw.{sound-law}
 use Rattle.ledger.proofs.Looking.{look-outcome}
 use Rattle.ledger.proofs.Demand3.{delivered}
@@ -21,6 +24,7 @@ use Rattle.ledger.proofs.Depot.{out-of-order-on-ledger, week-on-ledger}
 use Rattle.replay.proofs.Commit.{commits-on-bytes}
 use Rattle.replay.proofs.Counts.{counted}
 use Rattle.replay.proofs.Demand3.{run-delivered}
+use Rattle.replay.proofs.Struck.{strikes-on-bytes}
 use Rattle.sheets.proofs.RoundTrip.{sheet-round-trip}
 use Rattle.desk.proofs.Rounding.{charge-smallest}
 use Rattle.desk.proofs.NoRate.{looked-exact, no-rate, sale-exact}
@@ -28,9 +32,10 @@ use Rattle.desk.proofs.Onward.{onward}
 use Rattle.listing.proofs.Cutting.{cut}
 use Rattle.listing.proofs.Whole as listing
 use Rattle.ledger_numbers.proofs.Exact.{numbers-exact}
-use Rattle.guarantees.specs.Guarantees.{AsNumbers, Demand1, Demand2, Demand3, Guarantees, Request1, Request2, Request3, Request4, Request5}
-use Rattle.guarantees.proofs.AnyLedger.{no-step, number-accepted, number-refused, one-number}
+use Rattle.guarantees.specs.Guarantees.{AsNumbers, Demand1, Demand2, Demand3, Guarantees, Request1, Request2, Request3, Request4, Request5, Request13}
 use Rattle.guarantees.proofs.Calls.{refused-sale, refused-step, unsound-run}
+use Rattle.guarantees.proofs.Compaction.{compactions-on-ledger}
+use Rattle.guarantees.proofs.Struck.{ledger-kept, strikable-on-ledger, verdicts-kept}
 use Rattle.guarantees.proofs.Fronts.{full, no-step-record, refused-record, torn, untouched}
 use Rattle.guarantees.proofs.Buffers.{steps-on-buffers, verdicts-on-buffers}
 use Rattle.guarantees.proofs.Sequences.{collectable, collects, keeps, never-charged}
@@ -103,6 +108,19 @@ request4 = record { occupancy = occupancy-by-words; oldVerdicts = old-verdicts-k
 request5 : Request5
 request5 = record { lines = cut; whole = listing.whole }
 
+request13 : Request13
+request13 = record {
+  compactions = compactions;
+  compactionsOnLedger = compactions-on-ledger;
+  compactionsOnward = compactions-from;
+  compactionsByHistory = compactions-of;
+  strikes = strikes;
+  verdictsKept = verdicts-kept;
+  ledgerKept = ledger-kept;
+  strikable = strikable-on-ledger;
+  strikesOnBytes = strikes-on-bytes;
+}
+
 as-numbers : AsNumbers
 as-numbers = record { exact = numbers-exact; refusedStep = refused-step; refusedSale = refused-sale; unsoundRun = unsound-run }
 
@@ -116,5 +134,6 @@ guarantees = record {
   request3 = request3;
   request4 = request4;
   request5 = request5;
+  request13 = request13;
   asNumbers = as-numbers;
 }

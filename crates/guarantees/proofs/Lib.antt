@@ -1,6 +1,7 @@
-pub mod AnyLedger
 pub mod Fronts
 pub mod Calls
 pub mod Buffers
 pub mod Sequences
+pub mod Compaction
+pub mod Struck
 pub mod Guarantees

@@ -30,11 +30,11 @@ use Rattle.ledger.specs.declared.Ledger.{Ledger}
 use Rattle.ledger.specs.Ledger.{lay, view}
 use Rattle.ledger.proofs.Demand3.{delivered}
 use Rattle.ledger.proofs.SoundLaw.{view-lay}
+use Rattle.ledger.proofs.AnyLedger.{number-sound}
 use Rattle.desk.specs.declared.Sale.the-variants.{Charged}
 use Rattle.desk.specs.Sale.{saleOf}
 use Rattle.desk.proofs.NoRate.{no-rate}
 use Rattle.guarantees.specs.Guarantees.{collectAt, collectedAt, keptBy, numberOn}
-use Rattle.guarantees.proofs.AnyLedger.{number-sound}
 
 module _ (asks : List Ask) where
   viewed : view (keptBy asks) ≡ ledgerOf asks

@@ -14,15 +14,16 @@
 --   manifests::reaches    reachOf                         listing::read_listing    listingOf
 use mathlib.Core.Path.{_≡_}
 use mathlib.Core.Logic.{_⊎_, _↔_}
-use mathlib.Core.Bool.{Bool, true, false}
+use mathlib.Core.Bool.{Bool, true, false, not, _&&_}
 use mathlib.Core.List.{List, []}
 use Prim.Native.Nat.{ℕ, suc, _≤_, _<_}
+use lib.Dec.{eqb, leb}
 use lib.ListN.{length, take}
 use Rattle.store_names.specs.RoundTrip.{RoundTrip}
 use Rattle.fields.specs.declared.Next.the-variants.{Torn, Record}
 use Rattle.fields.specs.Fields.{over, nextOf}
 use Rattle.rules.specs.declared.Kind.{Kind}
-use Rattle.rules.specs.declared.Kind.the-variants.{Collect as COLLECT}
+use Rattle.rules.specs.declared.Kind.the-variants.{Collect as COLLECT, Compact as COMPACT, Look as LOOK}
 use Rattle.rules.specs.declared.Answer.{Answer}
 use Rattle.rules.specs.declared.Answer.the-variants.{Collected}
 use Rattle.rules.specs.declared.Step.{Step}
@@ -30,7 +31,7 @@ use Rattle.rules.specs.declared.Verdict.{Verdict}
 use Rattle.rules.specs.Lists.{has, none, risingAbove}
 use Rattle.rules.specs.Limits.{Limits, limits}
 use Rattle.rules.specs.State.{State, fresh}
-use Rattle.rules.specs.Words.{stored, listed}
+use Rattle.rules.specs.Words.{stored, listed, currencyOf}
 use Rattle.rules.specs.Table.{Row, wellFormed}
 use Rattle.rules.specs.Request.{Request, Asked, Unreadable, Ask}
 use Rattle.rules.specs.Step.{code, effect, granted, rowsOf}
@@ -41,6 +42,8 @@ use Rattle.rules.specs.Demand3.{historyOf, Demand3From, Whole}
 use Rattle.rules.specs.WriteOnce.{WriteOnce, LastCollected}
 use Rattle.rules.specs.Rates.{heldAt, ratesAt, LooksFrom, Looks}
 use Rattle.rules.specs.Raised.{OldVerdictsKept}
+use Rattle.rules.specs.Compaction.{inCurrent, inForce, Compactions, CompactionsFrom, CompactionsOf}
+use Rattle.rules.specs.Struck.{others, within, each, refusals, Strikable, Strikes}
 use Rattle.rules.specs.Depot as depot
 use Rattle.rules.specs.OutOfOrder as outOfOrder
 use Rattle.records.specs.declared.Reading.the-variants.{Read}
@@ -61,7 +64,7 @@ use Rattle.ledger.specs.Ledger.{lay, view, isSound}
 use Rattle.ledger.specs.SoundLaw.{SoundLayout}
 use Rattle.ledger.specs.Step.{refusedWith, answeredWith, judged}
 use Rattle.ledger.specs.Look.{LookOutcome}
-use Rattle.ledger.specs.Demand3.{verdictSize, ledgerAfter, Delivered}
+use Rattle.ledger.specs.Demand3.{verdictSize, keptAfter, ledgerAfter, Delivered}
 use Rattle.ledger.specs.Depot as onLedger
 use Rattle.ledger_numbers.specs.Numbers.{ledgerFrom}
 use Rattle.ledger_numbers.specs.Exact.{NumbersExact}
@@ -69,6 +72,7 @@ use Rattle.replay.specs.Front.{answerBytes, frontCode, unchanged, recordStep, f
 use Rattle.replay.specs.Counts.{Counted}
 use Rattle.replay.specs.Commit.{CommitsOnBytes}
 use Rattle.replay.specs.Demand3.{RunDelivered}
+use Rattle.replay.specs.Struck.{StrikesOnBytes}
 use Rattle.sheets.specs.RoundTrip.{SheetRoundTrip}
 use Rattle.desk.specs.declared.Sale.the-variants.{Charged, Refused}
 use Rattle.desk.specs.Charge.{ChargeIsSmallest}
@@ -242,6 +246,45 @@ pub record Request5 : Type 0 where
   pub lines : Cut
   pub whole : listing.Whole
 
+-- [13] looks just before and just after an accepted COMPACT, both at its time; refused steps that are struck from a trace
+
+-- on the ledger's own step: what a LOOK is told
+abbrev pub lookedOn : Ledger → ℕ → ℕ → ℕ → Verdict
+lookedOn l t c x = judged l (Asked t (LOOK c x) []) .verdict
+
+-- before and after: the ledger that a COMPACT of object n at time t finds, and the one that it leaves
+pub record LooksKeptOn (t n : ℕ) (before after : Ledger) : Type 0 where
+  -- "The current manifest has the same currencies", 0 too
+  pub currencies : (c : ℕ) → inForce (view after) c ≡ inForce (view before) c
+  -- "all but the compacted one give the same object", or the same refusal; and have the same objects
+  pub others : (c : ℕ) → (c ≡ currencyOf (view before) n → ⊥) → lookedOn after t c 0 ≡ lookedOn before t c 0
+  pub objects : (c : ℕ) → (c ≡ currencyOf (view before) n → ⊥) → inCurrent (view after) c ≡ inCurrent (view before) c
+  -- "looks through live holds are the same", of every currency and through every hold
+  pub held : (c x : ℕ) → 0 < x → lookedOn after t c x ≡ lookedOn before t c x
+
+-- steps on the ledger one after another: what is not accepted (refused, or without room for its verdict), and what each is told
+abbrev pub refusedOn : Ledger → Ask → Bool
+refusedOn l a = not (eqb (numberOn l (a .request)) 0 && leb (verdictSize (judged l (a .request) .verdict)) (a .room))
+
+abbrev pub verdictsOn : Ledger → List Ask → List Verdict
+verdictsOn l asks = each keptAfter (λ k a. judged k (a .request) .verdict) l asks
+
+pub record Request13 : Type 0 where
+  -- looks about a compaction: on the rules, whatever the limits; on any ledger value; by the history, from any ledger and history that agree and from fresh
+  pub compactions : (L : Limits) → Compactions L
+  pub compactionsOnLedger : (l : Ledger) (t e slot n : ℕ) (names : List ℕ) → numberOn l (Asked t (COMPACT e slot n) names) ≡ 0
+      → LooksKeptOn t n l (judged l (Asked t (COMPACT e slot n) names) .ledger)
+  pub compactionsOnward : (L : Limits) → CompactionsFrom L
+  pub compactionsByHistory : (asks : List Ask) → CompactionsOf asks
+  -- refused steps struck: on the rules, from any state; on the ledger's own step, from any ledger value; on the bytes of a run that ends whole
+  pub strikes : (L : Limits) → Strikes L
+  pub verdictsKept : (l : Ledger) (marks : List Bool) (asks : List Ask) → within marks (refusals keptAfter refusedOn l asks) ≡ true
+      → verdictsOn l (others marks asks) ≡ others marks (verdictsOn l asks)
+  pub ledgerKept : (l : Ledger) (marks : List Bool) (asks : List Ask) → within marks (refusals keptAfter refusedOn l asks) ≡ true
+      → ledgerAfter l (others marks asks) ≡ ledgerAfter l asks
+  pub strikable : (l : Ledger) (asks : List Ask) → Strikable keptAfter refusedOn l asks
+  pub strikesOnBytes : StrikesOnBytes
+
 -- ---- A ledger as numbers, for callers that see no struct (C): numbers that no ledger can be are a ledger that is not sound
 
 pub record AsNumbers : Type 0 where
@@ -262,4 +305,5 @@ pub record Guarantees : Type 0 where
   pub request3 : Request3
   pub request4 : Request4
   pub request5 : Request5
+  pub request13 : Request13
   pub asNumbers : AsNumbers

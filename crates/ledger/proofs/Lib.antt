@@ -13,3 +13,4 @@ pub mod Whole
 pub mod Demand3
 pub mod Looking
 pub mod Depot
+pub mod AnyLedger

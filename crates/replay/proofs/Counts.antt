@@ -24,12 +24,12 @@ use Rattle.replay.proofs.Cutting.{cut-joined, cut-next}
 use Rattle.replay.proofs.Answers.{verdict-next, answer-fits}
 
 -- what the records are told: no more verdicts than records, no more bytes than room, and all where none lacked room
-record Ample (room : ℕ) (rs : List (List ℕ)) (t : Told) : Type 0 where
-  few : length (t .verdicts) ≤ length rs
-  fits : length (flatten (t .verdicts)) ≤ room
-  each : t .full ≡ false → length (t .verdicts) ≡ length rs
+pub record Ample (room : ℕ) (rs : List (List ℕ)) (t : Told) : Type 0 where
+  pub few : length (t .verdicts) ≤ length rs
+  pub fits : length (flatten (t .verdicts)) ≤ room
+  pub each : t .full ≡ false → length (t .verdicts) ≡ length rs
 
-tells : (l : Ledger) (room : ℕ) (rs : List (List ℕ)) → Ample room rs (tell l room rs)
+pub tells : (l : Ledger) (room : ℕ) (rs : List (List ℕ)) → Ample room rs (tell l room rs)
 unfolding tell flatten
 tells l room [] = record { few = omega arith; fits = omega arith; each = λ e. refl }
 tells l room (r ∷ rs) = by (ltb room (length v)) refl (tells (answerTo l r .ledger) (room - length v) rs)
@@ -50,10 +50,10 @@ tells l room (r ∷ rs) = by (ltb room (length v)) refl (tells (answerTo l r .le
     }
 
 -- fields one behind the other are cut apart again
-abbrev Fields : List (List ℕ) → Type 0
+abbrev pub Fields : List (List ℕ) → Type 0
 Fields vs = (v : List ℕ) → v ∈ vs → (rest : List ℕ) → nextOf (v ++ rest) ≡ Record (length v)
 
-cut-fields : (vs : List (List ℕ)) → Fields vs → cut (flatten vs) ≡ record { records = vs; rest = [] }
+pub cut-fields : (vs : List (List ℕ)) → Fields vs → cut (flatten vs) ≡ record { records = vs; rest = [] }
 unfolding flatten cutFor
 cut-fields [] f = refl
 cut-fields (v ∷ vs) f =
@@ -94,7 +94,7 @@ isWhole Torn = false
 isWhole Full = false
 
 -- a run ends whole where no verdict lacked room and nothing is left
-ends-whole : (full : Bool) (rest : List ℕ) → endingOf full rest ≡ Whole → (full ≡ false) × (rest ≡ [])
+pub ends-whole : (full : Bool) (rest : List ℕ) → endingOf full rest ≡ Whole → (full ≡ false) × (rest ≡ [])
 unfolding none
 ends-whole true rest e = absurd (false≢true (ap isWhole e))
 ends-whole false [] e = (refl, refl)

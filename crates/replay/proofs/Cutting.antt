@@ -18,7 +18,7 @@ use Rattle.replay.specs.Replay.{Cut, cutAt, cutFor, cut}
 abbrev pub Found : List ℕ → Next → Type 0
 Found bs End = length bs ≡ 0
 Found bs Torn = 0 < length bs
-Found bs (Record n) = (3 ≤ n) × (n ≤ length bs)
+Found bs (Record n) = (3 ≤ n) × (n ≤ length bs) × (n ≡ 3 + claimed bs)
 
 pub next-found : (bs : List ℕ) → Found bs (nextOf bs)
 unfolding nextOf
@@ -28,7 +28,7 @@ next-found bs = by (eqb (length bs) 0) (ltb (length bs) 3) (ltb (length bs) (3 +
     by true b c e f = eqb-true (length bs) 0 e
     by false true c e f = let g = eqb-false (length bs) 0 e in omega (arith, g)
     by false false true e f = let g = eqb-false (length bs) 0 e in omega (arith, g)
-    by false false false e f = let h = ltb-false (length bs) (3 + claimed bs) f in (omega arith, h)
+    by false false false e f = let h = ltb-false (length bs) (3 + claimed bs) f in (omega arith, h, refl)
 
 -- two ways to cut what is behind the first record
 cut-alike : (bs : List ℕ) (p q : List ℕ → Cut) → ((n : ℕ) → Found bs (Record n) → p (drop n bs) ≡ q (drop n bs)) → (x : Next) → Found bs x → cutAt x bs p ≡ cutAt x bs q

@@ -3,7 +3,7 @@
 use mathlib.Core.Path.{_≡_, refl, sym, ap, subst, _∙_}
 use mathlib.Core.Bool.{Bool, true, false, cond}
 use mathlib.Core.List.{List, [], _∷_}
-use Prim.Native.Nat.{ℕ, _≤_}
+use Prim.Native.Nat.{ℕ}
 use types.Run.{OneOf, miss}
 use denote.Enum.Declared.{tagOf}
 use lib.Dec.{ltb}
@@ -54,5 +54,5 @@ module _ (l : Ledger) (bytes out : List ℕ) where
       ∙ ap (λ (g : Writing). steppedBy l bytes a (g .answer) (g .buffer)) f
 
 -- a record that was found is whole
-pub record-found : (bs : List ℕ) (n : ℕ) → nextOf bs ≡ Record n → (3 ≤ n) × (n ≤ length bs)
+pub record-found : (bs : List ℕ) (n : ℕ) → nextOf bs ≡ Record n → Found bs (Record n)
 record-found bs n e = subst (Found bs) e (next-found bs)

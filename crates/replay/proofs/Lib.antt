@@ -7,3 +7,4 @@ pub mod Reading
 pub mod Judging
 pub mod Commit
 pub mod Demand3
+pub mod Struck

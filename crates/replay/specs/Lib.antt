@@ -3,3 +3,4 @@ pub mod Replay
 pub mod Counts
 pub mod Commit
 pub mod Demand3
+pub mod Struck

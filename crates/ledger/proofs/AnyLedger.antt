@@ -1,48 +1,35 @@
--- The verdict on any ledger value is the smallest number that applies there; a refusal leaves the ledger.
+-- The verdict on any ledger value is the smallest number that applies there; a refusal leaves the ledger; a sound one is told what the rules say.
 -- Assumes nothing.
 use mathlib.Core.Path.{_≡_, refl, sym, ap, subst, _∙_}
 use mathlib.Core.Logic.{_⊎_, inl, inr}
-use mathlib.Core.Bool.{Bool, true, false, not, cond}
+use mathlib.Core.Bool.{Bool, true, false, cond}
 use mathlib.Core.List.{List}
 use Prim.Native.Nat.{ℕ}
 use native.Mathlib.Omega.{arith}
 use lib.Dec.{eqb}
 use borrow.Author.Tests.{eqb-true, eqb-false}
-use Rattle.rules.specs.declared.Kind.{Kind}
-use Rattle.rules.specs.declared.Kind.the-variants.{Fence as FENCE, Put as PUT, Commit as COMMIT, Compact as COMPACT, Hold as HOLD, Renew as RENEW, Release as RELEASE, List as LIST, Look as LOOK, Collect as COLLECT}
-use Rattle.rules.specs.declared.Answer.{Answer}
+use Rattle.rules.specs.declared.Answer.the-variants.{Refused}
 use Rattle.rules.specs.Limits.{limits}
 use Rattle.rules.specs.Request.{Request, Asked, Unreadable}
 use Rattle.rules.specs.Sound.{sound}
 use Rattle.rules.specs.State.{State}
-use Rattle.rules.specs.Step.{answers, code, effect, granted, settle, verdict}
-use Rattle.rules.specs.Table.{firstOf}
+use Rattle.rules.specs.Step.{alone, code, effect, granted, reply, rowsOf, verdict}
+use Rattle.rules.specs.Table.{Row, firstOf}
+use Rattle.rules.specs.Typed.{verdictOf}
 use Rattle.rules.specs.Verdict.{Smallest}
-use Rattle.rules.proofs.Table.{verdict-smallest}
+use Rattle.rules.proofs.Table.{granted-code, verdict-smallest}
 use Rattle.ledger.specs.declared.Ledger.{Ledger}
 use Rattle.ledger.specs.declared.StepAnswer.{StepAnswer}
 use Rattle.ledger.specs.Ledger.{lay, view, isSound}
 use Rattle.ledger.specs.Step.{refusedWith, answeredWith, ruledBy, ruled, judged}
 use Rattle.ledger.proofs.SoundLaw.{sound-law}
-use Rattle.guarantees.specs.Guarantees.{numberOn, rowsOn}
 
--- an accepted step's answer has code 0
-kind-zero : (k : Kind) (s : State) → code (answers k s .answer) ≡ 0
-unfolding answers
-kind-zero (FENCE r slot) s = refl
-kind-zero (PUT r e n c) s = refl
-kind-zero (COMMIT e slot) s = refl
-kind-zero (COMPACT e slot n) s = refl
-kind-zero (HOLD x m e) s = refl
-kind-zero (RENEW x e) s = refl
-kind-zero (RELEASE x) s = refl
-kind-zero (LIST x) s = refl
-kind-zero (LOOK c x) s = refl
-kind-zero COLLECT s = refl
+-- the number that a request is given, and the rows that can apply to it: as the page of guarantees has them
+abbrev pub numberOn : Ledger → Request → ℕ
+numberOn l q = code (judged l q .verdict .answer)
 
-granted-zero : (q : Request) (s : State) → code (granted q s .answer) ≡ 0
-granted-zero (Asked t k l) s = kind-zero k (settle t s)
-granted-zero Unreadable s = refl
+abbrev rowsOn : Ledger → Request → List Row
+rowsOn l q = rowsOf limits (λ s. isSound l) (view l) q
 
 -- row 1's test counts only by what it says of this ledger
 same-test : (test other : State → Bool) (s : State) (q : Request) → test s ≡ other s → verdict limits test s q ≡ verdict limits other s q
@@ -63,12 +50,21 @@ module _ (l : Ledger) (q : Request) where
   unfolding judged ruled
   judged-sound e = rw e
 
+  -- a sound ledger is told what the rules say of its state
+  pub verdict-sound : isSound l ≡ true → judged l q .verdict ≡ verdictOf (reply limits (sound limits) (view l) q)
+  unfolding reply
+  verdict-sound e = ap (λ (a : StepAnswer). a .verdict) (judged-sound e) ∙ by (eqb row 0)
+    where
+      by : (b : Bool) → cond b (answeredWith (granted q (view l)) (lay (effect q (view l)))) (refusedWith row l) .verdict ≡ verdictOf (cond b (granted q (view l)) (alone (Refused row)))
+      by true = refl
+      by false = refl
+
   pub judged-unsound : isSound l ≡ false → judged l q ≡ refusedWith 1 l
   unfolding judged
   judged-unsound e = rw e
 
   ruled-code : (b : Bool) → eqb row 0 ≡ b → code (cond b (answeredWith (granted q (view l)) (lay (effect q (view l)))) (refusedWith row l) .verdict .answer) ≡ row
-  ruled-code true e = granted-zero q (view l) ∙ sym (eqb-true row 0 e)
+  ruled-code true e = granted-code q (view l) ∙ sym (eqb-true row 0 e)
   ruled-code false e = refl
 
   pub number-sound : isSound l ≡ true → numberOn l q ≡ row
@@ -76,6 +72,14 @@ module _ (l : Ledger) (q : Request) where
 
   number-unsound : isSound l ≡ false → numberOn l q ≡ 1
   number-unsound e = ap (λ (a : StepAnswer). code (a .verdict .answer)) (judged-unsound e)
+
+  -- what is accepted was asked of a sound ledger
+  pub sound-accepted : numberOn l q ≡ 0 → isSound l ≡ true
+  sound-accepted z = by (isSound l) refl
+    where
+      by : (b : Bool) → isSound l ≡ b → b ≡ true
+      by true e = refl
+      by false e = absurd (omega (arith, z, number-unsound e))
 
   number-is : (b : Bool) → isSound l ≡ b → verdict limits (λ s. isSound l) (view l) q ≡ numberOn l q
   number-is true e = same-test (λ s. isSound l) (sound limits) (view l) q (e ∙ sym (sound-law .state l e)) ∙ sym (number-sound e)
