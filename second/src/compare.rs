@@ -5,10 +5,13 @@
 //! Both sides keep the calling convention of the proved library's C calls,
 //! so that also what a refusal leaves untouched is compared.
 
+pub mod compaction;
 pub mod desk;
 pub mod ledgers;
 pub mod listing;
 pub mod records;
+pub mod sides;
+pub mod struck;
 pub mod traces;
 
 use std::collections::BTreeMap;

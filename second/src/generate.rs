@@ -1,12 +1,14 @@
 //! Random steps and records for comparisons with the proved library, well
 //! formed and damaged: document 01, "Records and names".
 
+pub mod compactions;
 pub mod guided;
 pub mod listings;
 pub mod loose;
 pub mod names;
 pub mod sheets;
 pub mod stocked;
+pub mod whole;
 
 use std::collections::BTreeSet;
 

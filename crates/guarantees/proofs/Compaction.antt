@@ -14,6 +14,7 @@ use Rattle.rules.specs.Sound.{sound}
 use Rattle.rules.specs.State.{State}
 use Rattle.rules.specs.Step.{accepts, effect, next, reply, size, verdict}
 use Rattle.rules.specs.Typed.{verdictOf}
+use Rattle.rules.specs.Words.{currencyOf}
 use Rattle.rules.proofs.Compaction.{compactions}
 use Rattle.rules.proofs.Soundness.{next-sound}
 use Rattle.ledger.specs.declared.Ledger.{Ledger}
@@ -45,5 +46,6 @@ compactions-on-ledger l t e slot n names z =
       currencies = λ c. ap (λ (a : State). inForce a c) (view-lay (effect q s) ∙ sym moved) ∙ kept .currencies c;
       others = λ c ne. told c 0 (kept .others c ne);
       objects = λ c ne. ap (λ (a : State). inCurrent a c) (view-lay (effect q s) ∙ sym moved) ∙ kept .objects c ne;
+      brought = ap (λ (a : State). inCurrent a (currencyOf s n)) (view-lay (effect q s) ∙ sym moved) ∙ kept .brought;
       held = λ c x some. told c x (kept .held c x (λ w. omega (arith, w, some)));
     })

@@ -15,7 +15,7 @@
 use mathlib.Core.Path.{_≡_}
 use mathlib.Core.Logic.{_⊎_, _↔_}
 use mathlib.Core.Bool.{Bool, true, false, not, _&&_}
-use mathlib.Core.List.{List, []}
+use mathlib.Core.List.{List, [], _∷_}
 use Prim.Native.Nat.{ℕ, suc, _≤_, _<_}
 use lib.Dec.{eqb, leb}
 use lib.ListN.{length, take}
@@ -256,9 +256,10 @@ lookedOn l t c x = judged l (Asked t (LOOK c x) []) .verdict
 pub record LooksKeptOn (t n : ℕ) (before after : Ledger) : Type 0 where
   -- "The current manifest has the same currencies", 0 too
   pub currencies : (c : ℕ) → inForce (view after) c ≡ inForce (view before) c
-  -- "all but the compacted one give the same object", or the same refusal; and have the same objects
+  -- "all but the compacted one give the same object", or the same refusal; and have the same objects; the compacted one has the object alone
   pub others : (c : ℕ) → (c ≡ currencyOf (view before) n → ⊥) → lookedOn after t c 0 ≡ lookedOn before t c 0
   pub objects : (c : ℕ) → (c ≡ currencyOf (view before) n → ⊥) → inCurrent (view after) c ≡ inCurrent (view before) c
+  pub brought : inCurrent (view after) (currencyOf (view before) n) ≡ n ∷ []
   -- "looks through live holds are the same", of every currency and through every hold
   pub held : (c x : ℕ) → 0 < x → lookedOn after t c x ≡ lookedOn before t c x
 

@@ -8,7 +8,7 @@ use mathlib.Core.List.{List, [], _∷_, _++_, map, List·Memᴰ·head, List·Mem
 use Prim.Native.Nat.{ℕ, _≤_}
 use native.Mathlib.Omega.{arith}
 use lib.Dec.{eqb, ltb}
-use borrow.Author.Tests.{eqb-true, eqb-false, eq-eqb, ne-eqb, le-ltb}
+use borrow.Author.Tests.{eqb-true, eqb-false, eq-eqb, ne-eqb, le-ltb, not-true}
 use Rattle.rules.specs.declared.Answer.{Answer}
 use Rattle.rules.specs.declared.Answer.the-variants.{Refused, Found}
 use Rattle.rules.specs.declared.Hold.{Hold}
@@ -17,7 +17,7 @@ use Rattle.rules.specs.declared.Object.{Object}
 use Rattle.rules.specs.Agreement.{Agrees}
 use Rattle.rules.specs.Compaction.{Compactions, CompactionsFrom, CompactionsOf, accepted, compacting, inCurrent, inForce, looked}
 use Rattle.rules.specs.Demand3.{eventsFrom, historyOf, ledgerFrom, ledgerOf}
-use Rattle.rules.specs.History.{History, atFirst, feed, historyFrom, noted}
+use Rattle.rules.specs.History.{History, atFirst, currencyAt, feed, historyFrom, noted}
 use Rattle.rules.specs.Limits.{Limits, limits}
 use Rattle.rules.specs.Lists.{_∈_, any, insert, keep, lookup, maximum, none}
 use Rattle.rules.specs.Rates.{lookAt, ratesAt}
@@ -31,8 +31,7 @@ use Rattle.rules.proofs.Accepted.{passed, row3-clear, row8-clear, there
 use Rattle.rules.proofs.Agreement.{currency-same}
 use Rattle.rules.proofs.Demand3.{agrees-from, step-keeps}
 use Rattle.rules.proofs.Laws.{lookup-keep}
-use Rattle.rules.proofs.Lists.{any-in, decide, in-any, in-keep, keep-in, keep-same, lookup-in, true-false}
-use Rattle.rules.proofs.Numbers.{in-insert}
+use Rattle.rules.proofs.Lists.{any-in, decide, in-any, keep-in, keep-same, lookup-in, true-false}
 use Rattle.rules.proofs.Rates.{chain, looks-from, rates-same}
 use Rattle.rules.proofs.Shape.{shape-of}
 use Rattle.rules.proofs.Soundness.{next-sound}
@@ -52,10 +51,10 @@ module _ {A : Type 0} where
       step false e true d r = true-false (q x) (f x d) e
       step false e false d r = r ∙ ap (λ c. cond c (x ∷ keep p xs) (keep p xs)) (sym d)
 
-  pub not-none : {x : A} {l : List A} → x ∈ l → none l ≡ false
-  unfolding none
-  not-none (List·Memᴰ·head e) = refl
-  not-none (List·Memᴰ·tail i) = refl
+  keep-none : (p : A → Bool) (l : List A) → ((x : A) → x ∈ l → p x ≡ false) → keep p l ≡ []
+  unfolding keep
+  keep-none p [] f = refl
+  keep-none p (x ∷ xs) f = rw (f x (List·Memᴰ·head refl)) (keep-none p xs (λ y i. f y (List·Memᴰ·tail i)))
 
 -- a number that does not pass comes in unseen
 keep-insert : (p : ℕ → Bool) (n : ℕ) (l : List ℕ) → p n ≡ false → keep p (insert n l) ≡ keep p l
@@ -67,6 +66,20 @@ keep-insert p n (m ∷ ms) e = step (ltb n m) (eqb n m) (keep-insert p n ms e)
     step true c r = rw e
     step false true r = refl
     step false false r = ap (λ l. cond (p m) (m ∷ l) l) r
+
+-- a number that alone passes comes in alone
+keep-alone : (p : ℕ → Bool) (n : ℕ) (l : List ℕ) → p n ≡ true → ((m : ℕ) → m ∈ l → p m ≡ false) → keep p (insert n l) ≡ n ∷ []
+unfolding keep insert
+keep-alone p n [] e f = rw e
+keep-alone p n (m ∷ ms) e f = step (ltb n m) (eqb n m) refl (keep-alone p n ms e (λ k i. f k (List·Memᴰ·tail i))) (keep-none p ms (λ k i. f k (List·Memᴰ·tail i)))
+  where
+    out : p m ≡ false
+    out = f m (List·Memᴰ·head refl)
+
+    step : (b c : Bool) → eqb n m ≡ c → keep p (insert n ms) ≡ n ∷ [] → keep p ms ≡ [] → keep p (cond b (n ∷ m ∷ ms) (cond c (m ∷ ms) (m ∷ insert n ms))) ≡ n ∷ []
+    step true c d r z = rw (e, out, z)
+    step false true d r z = true-false (p m) (ap p (sym (eqb-true n m d)) ∙ e) out
+    step false false d r z = rw (out, r)
 
 -- what is found in the front is found there
 lookup-front : {A B : Type 0} (key : A → ℕ) (value : A → B) (default : B) (n : ℕ) {x : A} (l rest : List A) → x ∈ l → key x ≡ n → lookup key value default n (l ++ rest) ≡ lookup key value default n l
@@ -153,18 +166,22 @@ module _ (t n : ℕ) (s : State) where
       ∙ keep-within (λ m. eqb (currencyOf s m) c) (λ m. not (eqb (currencyOf s m) (currencyOf s n))) (s .current .names)
       (λ m e. ap not (ne-eqb (currencyOf s m) (currencyOf s n) (λ d. ne (sym (eqb-true (currencyOf s m) c e) ∙ d))))
 
-  -- of the compacted one it had some, and has the object
-  current-brought : none (ofCurrency compactAt (currencyOf s n) (compactAt .current .names)) ≡ false
-  unfolding ofCurrency compacted
-  current-brought = not-none (in-keep (λ m. eqb (currencyOf compactAt m) (currencyOf s n)) {l = compactAt .current .names} (in-insert n _ (inl refl)) (eq-eqb _ _ (same-currency n)))
+  -- of the compacted one it has the object alone
+  current-brought : ofCurrency compactAt (currencyOf s n) (compactAt .current .names) ≡ n ∷ []
+  unfolding ofCurrency compacted currencyOf
+  current-brought =
+      of-same (currencyOf s n) (compactAt .current .names)
+      ∙ keep-alone (λ m. eqb (currencyOf s m) (currencyOf s n)) n _ (eq-eqb (currencyOf s n) (currencyOf s n) refl)
+      (λ m i. not-true _ (keep-in (λ m. not (eqb (currencyOf s m) (currencyOf s n))) (s .current .names) i .1))
 
   currencies-same : row17 s n ≡ false → (c : ℕ) → inForce compactAt c ≡ inForce s c
+  unfolding none
   currencies-same some c = step (decide (eqb c (currencyOf s n)))
     where
       step : (eqb c (currencyOf s n) ≡ true) ⊎ (eqb c (currencyOf s n) ≡ false) → inForce compactAt c ≡ inForce s c
       step (inl e) =
           let q = eqb-true c (currencyOf s n) e in
-          ap not (ap (λ k. none (ofCurrency compactAt k (compactAt .current .names))) q ∙ current-brought ∙ sym some ∙ ap (λ k. none (ofCurrency s k (s .current .names))) (sym q))
+          ap not (ap (λ k. none (ofCurrency compactAt k (compactAt .current .names))) q ∙ ap none current-brought ∙ sym some ∙ ap (λ k. none (ofCurrency s k (s .current .names))) (sym q))
       step (inr e) = ap (λ l. not (none l)) (current-others c (eqb-false c (currencyOf s n) e))
 
   same-live : (x : ℕ) → isLive t compactAt x ≡ isLive t s x
@@ -212,6 +229,7 @@ compactions L s t e slot n l room a =
     rw moved (record {
       currencies = currencies-same t n s (f .1 .1 .1 .1 .1 .1 .1 .1 .0);
       objects = current-others t n s;
+      brought = current-brought t n s;
       others = λ c ne. looked-same L s after t c 0 safe safe-after later (omega arith) (told-same s after t c 0 (same-live t n s 0) (λ d. rates-current t n s c ne));
       held = λ c x ne.
           let some = ne-eqb x 0 ne in
@@ -253,6 +271,7 @@ compactions-from L s h r t e slot n l room a =
       currencies = λ c. ap (λ (l : List ℕ). not (none l)) (sym (current-rates q g agree t c on)) ∙ kept .currencies c ∙ ap (λ (l : List ℕ). not (none l)) (current-rates s h r t c later);
       others = λ c ne. told c 0 (kept .others c (λ d. ne (d ∙ same)));
       objects = λ c ne. sym (current-rates q g agree t c on) ∙ kept .objects c (λ d. ne (d ∙ same)) ∙ current-rates s h r t c later;
+      brought = sym (current-rates q g agree t (currencyAt h n) on) ∙ ap (inCurrent q) (sym same) ∙ kept .brought;
       held = λ c x ne. told c x (kept .held c x ne);
     }
 

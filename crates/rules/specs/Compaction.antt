@@ -43,8 +43,9 @@ pub record LooksKept (L : Limits) (t n : ℕ) (before after : State) : Type 0 wh
   pub currencies : (c : ℕ) → inForce after c ≡ inForce before c
   -- "all but the compacted one give the same object": or the same refusal
   pub others : (c : ℕ) → (c ≡ currencyOf before n → ⊥) → looked L after t c 0 ≡ looked L before t c 0
-  -- and have the same objects: of currency 0 no LOOK tells
+  -- and have the same objects: of currency 0 no LOOK tells; the compacted one has the object alone
   pub objects : (c : ℕ) → (c ≡ currencyOf before n → ⊥) → inCurrent after c ≡ inCurrent before c
+  pub brought : inCurrent after (currencyOf before n) ≡ n ∷ []
   -- "looks through live holds are the same", of every currency, the refusals too; through a hold that is not live they are refused before and after
   pub held : (c x : ℕ) → (x ≡ 0 → ⊥) → looked L after t c x ≡ looked L before t c x
 
@@ -61,6 +62,7 @@ pub record LooksKeptAt (L : Limits) (t n : ℕ) (before after : History) : Type 
   pub currencies : (c : ℕ) → inForceAt t after c ≡ inForceAt t before c
   pub others : (c : ℕ) → (c ≡ currencyAt before n → ⊥) → lookAt L t after c 0 ≡ lookAt L t before c 0
   pub objects : (c : ℕ) → (c ≡ currencyAt before n → ⊥) → ratesAt t after c 0 ≡ ratesAt t before c 0
+  pub brought : ratesAt t after (currencyAt before n) 0 ≡ n ∷ []
   pub held : (c x : ℕ) → (x ≡ 0 → ⊥) → lookAt L t after c x ≡ lookAt L t before c x
 
 -- of any ledger and history that agree
