@@ -39,9 +39,9 @@ current ledger numbers =
     (cond (ltb (length numbers) 3) (record { answer = 3; left = numbers })
     (cond (isSound (ledgerFrom ledger)) (record { answer = 0; left = over (currentNumbers (ledgerFrom ledger)) numbers }) (record { answer = 1; left = numbers })))
 
--- 1,000,000 for the base, 1,000 for each request of document 02 that has landed, in their order, and one for each change after it
+-- 1,000,000 for the base, 1,000 for each request of document 02 that has landed, in the order in which they landed, and one for each change after it
 abbrev pub version : ℕ
-version = 1005000
+version = 1006000
 
 -- what the numbers of a step ask: those that say no kind are a step that no record can say
 abbrev pub requestOf : KindRead → List ℕ → List ℕ → Request

@@ -31,7 +31,7 @@ const NOT_SOUND: u64 = 1;
 const CURRENT: usize = 3;
 
 // The version of the calls: 1,000,000 for the base, 1,000 for each request that has landed, one for each change after it.
-const VERSION: u64 = 1005000;
+const VERSION: u64 = 1006000;
 
 // The fresh ledger, as numbers.
 #[no_mangle]
