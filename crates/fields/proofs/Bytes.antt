@@ -3,7 +3,7 @@
 use mathlib.Core.Path.{_≡_, refl, sym, ap, _∙_}
 use mathlib.Core.List.{List, [], _∷_, _++_, append-assoc, append-nil}
 use Prim.Native.Nat.{ℕ, zero, suc, _+_, _-_, _*_, _^_, _/_, _%_, _≤_, _<_}
-use native.Mathlib.Nat.{add-zero, zero-add, pow-suc, pow-le-pow-right, lt-of-lt-of-le, mod-lt, mod-one, mod-eq-of-lt}
+use native.Mathlib.Nat.{add-zero, zero-add, zero-mul, add-mul, mul-assoc, mul-comm, pow-suc, pow-le-pow-right, lt-of-lt-of-le, mod-lt, mod-one, mod-eq-of-lt}
 use native.Mathlib.Numerals.{add-one}
 use native.Mathlib.Omega.{arith}
 use lib.Arith.{digits-div, digits-mod, mod-mul}
@@ -62,6 +62,35 @@ unfolding valueFrom
 value-append n [] r = refl
 value-append n (b ∷ l) r = value-append (n * 256 + b) l r
 
+-- ---- bytes from a place on, in two halves
+
+value-shift : (n : ℕ) (l : List ℕ) → valueFrom n l ≡ n * 256 ^ length l + valueOf l
+unfolding valueFrom
+value-shift n [] = omega arith
+value-shift n (b ∷ l) =
+    let p = 256 ^ length l in
+    let more : 256 ^ suc (length l) ≡ p * 256 = pow-suc 256 (length l) in
+    let front : n * 256 * p ≡ n * (p * 256) = mul-assoc n 256 p ∙ ap (λ (k : ℕ). n * k) (mul-comm 256 p) in
+    rw (value-shift (n * 256 + b) l, value-shift (0 * 256 + b) l, more, add-mul, zero-mul, zero-add) (omega (arith, front))
+
+pub value-one : (at : ℕ) (s : List ℕ) → at < length s → valueOf (take 1 (drop at s)) ≡ getD s at 0
+unfolding valueFrom
+value-one at s h = rw (drop-cons s at 0 h) (zero-add (getD s at 0))
+
+module _ (at : ℕ) (s : List ℕ) where
+  pub value-halves : (k m : ℕ) → at + k + m ≤ length s → valueOf (take (k + m) (drop at s)) ≡ valueOf (take k (drop at s)) * 256 ^ m + valueOf (take m (drop (at + k) s))
+  value-halves k m h =
+      rw (take-add k m (drop at s), value-append, value-shift (valueOf (take k (drop at s))), drop-drop k at s, length-take-le m (drop (at + k) s) (omega (arith, length-drop (at + k) s)))
+
+  pub value-two : at + 2 ≤ length s → valueOf (take 2 (drop at s)) ≡ getD s at 0 * 256 + getD s (at + 1) 0
+  value-two h = value-halves 1 1 (omega arith) ∙ rw (value-one at s (omega arith), value-one (at + 1) s (omega arith))
+
+pub value-four : (at : ℕ) (s : List ℕ) → at + 4 ≤ length s
+    → valueOf (take 4 (drop at s)) ≡ getD s at 0 * 16777216 + getD s (at + 1) 0 * 65536 + getD s (at + 2) 0 * 256 + getD s (at + 3) 0
+value-four at s h =
+    let next : at + 2 + 1 ≡ at + 3 = omega arith in
+    omega (arith, value-halves at s 2 2 (omega arith), value-two at s (omega arith), value-two (at + 2) s (omega arith), ap (λ (i : ℕ). getD s i 0) next)
+
 power-pos : (w : ℕ) → 0 < 256 ^ w
 power-pos w = pow-le-pow-right (lit< tt) {i = 0} {j = w} (omega arith)
 
@@ -114,6 +143,20 @@ value-more l i h = rw (add-one, take-suc l i 0 h, value-append)
 
 pub drop-set : (l : List ℕ) (i v : ℕ) → i < length l → drop i (set l i v) ≡ v ∷ drop (i + 1) l
 drop-set l i v h = rw (set-split l i v h, add-one) (drop-at (take i l) (v ∷ drop (suc i) l) i (length-take-le i l (omega arith)))
+
+-- eight bytes stored one after the other are all there is
+pub eight-set : (l : List ℕ) (a b c d e f g h : ℕ) → length l ≡ 8
+    → set (set (set (set (set (set (set (set l 0 a) 1 b) 2 c) 3 d) 4 e) 5 f) 6 g) 7 h ≡ a ∷ b ∷ c ∷ d ∷ e ∷ f ∷ g ∷ h ∷ []
+eight-set l a b c d e f g h long =
+    ap (λ (m : List ℕ). set (set (set (set (set (set (set (set m 0 a) 1 b) 2 c) 3 d) 4 e) 5 f) 6 g) 7 h)
+    (at 0 (omega arith) ∙ ap (cons 0) (at 1 (omega arith) ∙ ap (cons 1) (at 2 (omega arith) ∙ ap (cons 2) (at 3 (omega arith) ∙ ap (cons 3)
+    (at 4 (omega arith) ∙ ap (cons 4) (at 5 (omega arith) ∙ ap (cons 5) (at 6 (omega arith) ∙ ap (cons 6) (at 7 (omega arith) ∙ ap (cons 7) (drop-of-length-le l {i = 8} (omega arith))))))))))
+  where
+    cons : ℕ → List ℕ → List ℕ
+    cons i m = getD l i 0 ∷ m
+
+    at : (i : ℕ) → i < length l → drop i l ≡ cons i (drop (suc i) l)
+    at i k = drop-cons l i 0 k
 
 -- ---- numbers of eight bytes
 

@@ -3,24 +3,19 @@
 use mathlib.Core.Path.{_≡_, refl, ap, _∙_}
 use mathlib.Core.Bool.{Bool, true, false, cond, _&&_, and-false, and-eq-true-iff}
 use mathlib.Core.List.{List, [], _∷_, _++_, append-assoc}
-use Prim.Native.Nat.{ℕ, suc, _+_, _-_, _≤_, _<_}
+use Prim.Native.Nat.{ℕ, suc, _+_, _-_, _/_, _%_, _≤_, _<_}
 use native.Mathlib.Omega.{arith}
 use lib.Dec.{leb, eqb, ltb}
-use lib.ListN.{length, getD, set, take, drop, length-append, length-take, length-drop}
+use lib.ListN.{length, getD, set, take, drop, length-append, length-drop}
 use lib.Seq.{take-at, take-add, length-take-le}
 use borrow.Author.Tests.{lt-ltb, le-ltb, le-leb, lt-leb, eq-eqb, ne-eqb, leb-true, eqb-true}
 use Rattle.fields.specs.declared.Head.the-variants.{Holds, Bad}
 use Rattle.fields.specs.declared.Next.the-variants.{End, Torn, Record}
-use Rattle.fields.specs.Bytes.{be, kept64}
+use Rattle.fields.specs.Bytes.{be}
 use Rattle.fields.specs.Fields.{field, claimed, headOf, over, nextOf}
-use Rattle.fields.proofs.Bytes.{Below, below-take, below-drop, length-be, value-be-fits, be-value, kept-value}
+use Rattle.fields.proofs.Bytes.{Below, below-take, length-be, value-be-fits, be-value}
 
 -- ---- the reader's cases
-
--- the two bytes of a length are read whole
-pub kept-claimed : (bs : List ℕ) → Below 256 bs → kept64 (claimed bs) ≡ claimed bs
-kept-claimed bs h =
-    kept-value (take 2 (drop 1 bs)) (below-take 256 2 (drop 1 bs) (below-drop 256 1 bs h)) (omega (arith, length-take 2 (drop 1 bs)))
 
 pub head-short : (tag : ℕ) (bs : List ℕ) → length bs < 3 → headOf tag bs ≡ Bad
 unfolding headOf
@@ -102,6 +97,9 @@ field-head tag n (b ∷ bs) h read =
 
 -- ---- a head laid over what stands there
 
-pub over-head : (tag n : ℕ) (out : List ℕ) → 3 ≤ length out → take 1 (set out 0 tag) ++ (be 2 n ++ drop 2 (drop 1 (set out 0 tag))) ≡ over (tag ∷ be 2 n) out
+pub over-head : (tag n : ℕ) (out : List ℕ) → 3 ≤ length out → set (set (set out 0 tag) 1 (n / 256 % 256)) 2 (n % 256) ≡ over (tag ∷ be 2 n) out
+unfolding be
 over-head tag n [] h = absurd (omega arith)
-over-head tag n (b ∷ out) h = rw length-be
+over-head tag n (a ∷ []) h = absurd (omega arith)
+over-head tag n (a ∷ b ∷ []) h = absurd (omega arith)
+over-head tag n (a ∷ b ∷ c ∷ out) h = refl

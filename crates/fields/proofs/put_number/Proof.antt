@@ -1,13 +1,14 @@
--- `fields::put_number` meets its contract. The invariant: the bytes of the rest, and then what is written, are the bytes of all.
+-- `fields::put_number` meets its contract. Eight bytes are written at once; for others the invariant: the bytes of the rest, and then what is written, are the bytes of all.
 -- Assumes nothing.
-use mathlib.Core.Path.{_≡_, refl}
+use mathlib.Core.Path.{_≡_, refl, sym, ap, _∙_}
 use mathlib.Core.List.{_++_, append-assoc, append-nil}
-use Prim.Native.Nat.{_+_, _-_, _%_, _≤_}
+use Prim.Native.Nat.{ℕ, _+_, _-_, _%_, _≤_}
 use native.Mathlib.Omega.{arith}
 use lib.ListN.{length, drop, length-set}
 use lib.Seq.{drop-length}
 use Rattle.fields.specs.Bytes.{be}
 use Rattle.fields.proofs.Bytes.{be-last, drop-set}
+use borrow.Author.Needs.{needs}
 use Rattle.fields.proofs.put_number.Statement.{statement}
 use Rattle.fields.proofs.put_number.Tie as tie
 
@@ -17,20 +18,11 @@ Inv-loop n out₀ rest₀ i₀ out rest i = (i ≤ length out) × (length out �
 abbrev μ-loop : tie.MeasureT-loop
 μ-loop n out₀ rest₀ i₀ out rest i = i
 
+returns : tie.Need-returns Inv-loop μ-loop
+returns c = c .before .before .put-eight .ensures ∙ ap (λ (w : ℕ). be w (c .before .before .before .before .before .before .args .n)) (sym (c .before .before .before .before .if1 .taken))
+
 loop-holds : tie.Need-loop-holds Inv-loop μ-loop
 loop-holds c = (omega arith, refl, rw (drop-length, append-nil))
-
-sub-i : tie.Need-sub-i Inv-loop μ-loop
-sub-i c = omega arith
-
-cast-out : tie.Need-cast-out Inv-loop μ-loop
-cast-out c = omega arith
-
-slice-write-out : tie.Need-slice-write-out Inv-loop μ-loop
-slice-write-out c = omega arith
-
-loop-less : tie.Need-loop-less Inv-loop μ-loop
-loop-less c = omega arith
 
 loop-again : tie.Need-loop-again Inv-loop μ-loop
 loop-again c =
@@ -41,12 +33,12 @@ loop-again c =
       rw (drop-set (l .out) (l .i - 1) (l .rest % 256) (omega arith), turn) (rw (be-last (l .i) (l .rest) (omega arith), append-assoc) at (l .inv .2)),
     )
 
-same-length : tie.Need-same-length Inv-loop μ-loop
-same-length c = c .before .loop .inv .1
+same-length-2 : tie.Need-same-length-2 Inv-loop μ-loop
+same-length-2 c = c .before .loop .inv .1
 
-returns : tie.Need-returns Inv-loop μ-loop
+returns-2 : tie.Need-returns-2 Inv-loop μ-loop
 unfolding be
-returns c =
+returns-2 c =
     let none : c .before .loop .i ≡ 0 = omega arith in
     rw none at (c .before .loop .inv .2)
 
@@ -56,11 +48,14 @@ put-number-spec =
     (tie.spec
     Inv-loop
     μ-loop
+    (λ c κs. search needs)
+    (λ c. search needs)
+    returns
     loop-holds
-    sub-i
-    cast-out
-    slice-write-out
-    loop-less
+    (λ c. search needs)
+    (λ c. search needs)
+    (λ c. search needs)
+    (λ c. search needs)
     loop-again
-    same-length
-    returns)
+    same-length-2
+    returns-2)
