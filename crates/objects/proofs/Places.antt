@@ -1,25 +1,28 @@
 -- What the type of the objects and their layout tell of the places, and what each place adds to what is asked of them.
 -- Assumes nothing.
-use mathlib.Core.Path.{_≡_, refl, sym, ap, ap₂, _∙_}
+use mathlib.Core.Path.{_≡_, refl, sym, ap, ap₂, _∙_, subst}
+use mathlib.Core.Logic.{⊎-elim}
 use mathlib.Core.Bool.{Bool, true, false, not, cond, _&&_, _||_, false≢true, and-true, and-false}
-use mathlib.Core.List.{List, [], _∷_, _++_, map}
+use mathlib.Core.List.{List, [], _∷_, _++_, map, List·Memᴰ·not-nil, List·Memᴰ·append-cases, List·Memᴰ·eq-of-singleton}
 use Prim.Native.Nat.{ℕ, suc, _+_, _≤_, _<_}
+use native.Mathlib.Numerals.{add-one}
 use native.Mathlib.Omega.{arith}
 use borrow.Author.Tests.{ne-eqb, eq-eqb, eqb-true, eqb-false, not-true, not-false}
 use lib.Dec.{eqb}
 use lib.ListN.{length, take, drop, getD, set, length-map, take-append-drop}
-use lib.Seq.{drop-cons}
+use lib.Seq.{take-suc, drop-cons}
 use mir.Val.{Val}
 use denote.Laws.{Is}
 use denote.Struct.Field.{u64-field}
 use Rattle.rules.specs.declared.Object.{Object}
 use Rattle.rules.specs.Limits.{limits, wordCount, wordBits}
-use Rattle.rules.specs.Lists.{keep, any, has, lookup, distinct}
+use Rattle.rules.specs.Lists.{_∈_, keep, any, has, lookup, distinct}
 use Rattle.rules.specs.State.{occupied}
 use Rattle.rules.specs.Step.{mark}
 use Rattle.rules.specs.Table.{nonzero}
 use Rattle.rules.proofs.Lists.{and-left, and-right, and-both, or-left, or-right, or-false-left, or-false-right, any-same}
 use Rattle.rules.proofs.Laws
+use Rattle.rules.proofs.Numbers.{has-in}
 use Rattle.rules.proofs.Object as object
 use Rattle.arrays.proofs.Lists.{keep-append, keep-kept, keep-left, any-append, any-keep, and-any, any-map, map-set}
 use Rattle.objects.specs.declared.Objects.{Objects}
@@ -126,6 +129,10 @@ numbers-kept (o ∷ os) = step (occupied o) (numbers-kept os)
     step true e = ap (λ (l : List ℕ). o .number ∷ l) e
     step false e = e
 
+among-has : (ns : List ℕ) (n : ℕ) → among ns n ≡ true → has n ns ≡ true
+unfolding among
+among-has ns n e = and-right (nonzero n) (has n ns) e
+
 has-kept : (n : ℕ) (ns : List ℕ) → has n (keep nonzero ns) ≡ among ns n
 unfolding has among
 has-kept n ns = any-keep (eqb n) nonzero ns ∙ any-same _ _ ns (λ m i. same-test nonzero n m) ∙ sym (and-any (eqb n) (nonzero n) ns)
@@ -172,6 +179,41 @@ module _ (ns : List ℕ) (i : ℕ) (h : i < length ns) where
       ap (λ (l : List ℕ). distinct (keep nonzero l)) (sym (take-append-drop i ns) ∙ ap (λ (l : List ℕ). take i ns ++ l) (drop-cons ns i 0 h))
       ∙ ap distinct (keep-append nonzero (take i ns) (number ∷ drop (suc i) ns) ∙ ap (λ (b : Bool). keep nonzero (take i ns) ++ cond b (number ∷ keep nonzero (drop (suc i) ns)) (keep nonzero (drop (suc i) ns))) some)
       ∙ distinct-twice number (keep nonzero (take i ns)) (keep nonzero (drop (suc i) ns)) (has-kept number (take i ns) ∙ e)
+
+-- a number that stands behind a place stands there
+pub among-behind : (n i : ℕ) (ns : List ℕ) → has n (drop i ns) ≡ true → has n ns ≡ true
+unfolding has
+among-behind n i ns e = ap (any (eqb n)) (sym (take-append-drop i ns)) ∙ any-append (eqb n) (take i ns) (drop i ns) ∙ or-right (has n (take i ns)) (has n (drop i ns)) e
+
+-- Places passed by whoever asks whether numbers are distinct: so far they are, and none is above the highest
+pub record Passed (ns : List ℕ) (i highest : ℕ) : Type 0 where
+  pub distinct : distinct (keep nonzero (take i ns)) ≡ true
+  pub below : (n : ℕ) → n ∈ take i ns → n ≤ highest
+
+pub passed-none : (ns : List ℕ) → Passed ns 0 0
+unfolding keep distinct
+passed-none ns = record { distinct = refl; below = λ n m. absurd (List·Memᴰ·not-nil m) }
+
+module _ (ns : List ℕ) (i highest : ℕ) (h : i < length ns) (p : Passed ns i highest) where
+  passed-next : among (take i ns) (getD ns i 0) ≡ false → (top : ℕ) → highest ≤ top → getD ns i 0 ≤ top → Passed ns (i + 1) top
+  passed-next new top old this = record {
+    distinct = distinct-next ns i h new (p .distinct);
+    below = λ n m. ⊎-elim
+        (λ k. omega (arith, p .below n k))
+        (λ k. let e : n ≡ getD ns i 0 = List·Memᴰ·eq-of-singleton k in omega (arith, e))
+        (List·Memᴰ·append-cases (take i ns) (subst (λ (l : List ℕ). n ∈ l) (rw add-one (take-suc ns i 0 h)) m));
+  }
+
+  -- a number above all of them is new
+  pub passed-above : highest < getD ns i 0 → Passed ns (i + 1) (getD ns i 0)
+  passed-above above = passed-next (by (among (take i ns) (getD ns i 0)) refl) (getD ns i 0) (omega (arith, above)) (omega arith)
+    where
+      by : (b : Bool) → among (take i ns) (getD ns i 0) ≡ b → b ≡ false
+      by true e = absurd (omega (arith, above, p .below (getD ns i 0) (has-in (getD ns i 0) (take i ns) (among-has (take i ns) (getD ns i 0) e))))
+      by false e = refl
+
+  pub passed-other : getD ns i 0 ≤ highest → among (take i ns) (getD ns i 0) ≡ false → Passed ns (i + 1) highest
+  passed-other other new = passed-next new highest (omega arith) other
 
 -- The occupancy words
 

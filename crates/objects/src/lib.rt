@@ -5,16 +5,17 @@ ghost use mathlib.Core.Path.{_≡_};
 ghost use mathlib.Core.Bool.{true, not};
 ghost use mathlib.Core.List.{map};
 ghost use Prim.Native.Nat.{_≤_, _<_};
-ghost use lib.Dec.{leb};
-ghost use lib.ListN.{length, replicate};
+ghost use lib.Dec.{leb, ltb};
+ghost use lib.ListN.{length, drop, replicate};
 ghost use Rattle.rules.specs.Limits.{limits};
 ghost use Rattle.rules.specs.Lists.{keep, any, all, has, distinct, maximum};
 ghost use Rattle.rules.specs.State.{free, occupied};
 ghost use Rattle.rules.specs.Step.{place, mark};
 ghost use Rattle.rules.specs.Sound.{isWriter, unused};
 ghost use Rattle.objects.specs.Objects.{layPlaces, isLaid, roleEpoch, placeSoundBy, numbersAt, namedAt, currenciesAt, among, currencyAmong, storedIn, currencyIn, ofCurrencyIn, numbersIn};
-// For the collection, which frees places one after another.
+// For the collection, which frees places one after another, and the reader of an image, which fills them.
 pub use occupancy::clear_bit;
+pub use occupancy::set_bit;
 use rules::BITS;
 use rules::LARGEST_CURRENCY;
 use rules::Object;
@@ -168,15 +169,18 @@ impl Objects {
         true
     }
 
-    // Whether no two stored objects have one number. Each is looked for among those before it: free places are mostly behind.
+    // Whether no two stored objects have one number. One that is above all before it is new; any other is looked for among them.
     pub fn is_distinct(self) -> bool
         ensures { λ r. ⌜ r ≡ distinct (numbersIn (self .items)) ⌝ }
     {
         let numbers = self.numbers();
+        let mut highest: u64 = 0;
         let mut i: usize = 0;
         while i < PLACES {
             let number = numbers[i];
-            if is_among(&numbers[..i], number) {
+            if highest < number {
+                highest = number;
+            } else if is_among(&numbers[..i], number) {
                 return false;
             }
             i += 1;
@@ -248,13 +252,47 @@ pub fn is_among(numbers: &[u64], number: u64) -> bool
     contains(numbers, number)
 }
 
-// Whether each number of the list is among these.
+// The first place from `from` on that has this number; where none has, as many as there are.
+fn place_behind(numbers: &[u64], from: usize, number: u64) -> usize
+    requires { ⌜ from ≤ length (now numbers) ⌝ }
+    ensures { λ r. ⌜ ltb r (length (now (numbers .entry))) ≡ has number (drop from (now (numbers .entry))) ⌝ }
+{
+    let mut i = from;
+    while i < numbers.len() {
+        if numbers[i] == number {
+            return i;
+        }
+        i += 1;
+    }
+    i
+}
+
+// A place that has this number, which is not that of a free one: one from `from` on where there is one. Where no place has it, as
+// many as there are.
+fn place_from(numbers: &[u64], from: usize, number: u64) -> usize
+    requires { ⌜ from ≤ length (now numbers) ⌝ }
+    ensures { λ r. ⌜ ltb r (length (now (numbers .entry))) ≡ among (now (numbers .entry)) number ⌝ }
+{
+    if number == 0 {
+        return numbers.len();
+    }
+    let place = place_behind(numbers, from, number);
+    if place < numbers.len() {
+        return place;
+    }
+    place_behind(numbers, 0, number)
+}
+
+// Whether each number of the list is among these. A list rises, and so do most places' numbers: the next is looked for behind the
+// last one's place first.
 pub fn all_among(numbers: &[u64], list: &[u64]) -> bool
     ensures { λ r. ⌜ r ≡ all (among (now (numbers .entry))) (now (list .entry)) ⌝ }
 {
+    let mut at: usize = 0;
     let mut i: usize = 0;
     while i < list.len() {
-        if !is_among(numbers, list[i]) {
+        at = place_from(numbers, at, list[i]);
+        if numbers.len() <= at {
             return false;
         }
         i += 1;

@@ -85,7 +85,7 @@ fn without_bit(bits: u64, at: usize) -> u64
 }
 
 // The bit of a place is set.
-pub(crate) fn set_bit(words: &mut [u64], at: usize)
+pub fn set_bit(words: &mut [u64], at: usize)
     requires { ⌜ at < length (now words) * wordBits ⌝ }
     ensures { λ _. ⌜ now (words .exit) ≡ withFlag wordBits true at (now (words .entry)) ⌝ }
 {

@@ -99,7 +99,7 @@ record-written tag fs l tidy fit beside =
 
 -- ---- and what is found in a record is written as its bytes
 
-record-bytes : (bs : List ℕ) → Below 256 bs → 3 ≤ length bs → claimed bs ≡ length bs - 3 → field (getD bs 0 0) (drop 3 bs) ≡ bs
+pub record-bytes : (bs : List ℕ) → Below 256 bs → 3 ≤ length bs → claimed bs ≡ length bs - 3 → field (getD bs 0 0) (drop 3 bs) ≡ bs
 record-bytes bs below long whole =
     let front = field-head (getD bs 0 0) (claimed bs) bs below (head-holds (getD bs 0 0) bs refl (omega arith)) in
     rw (take-all (3 + claimed bs) bs (omega arith), take-all (claimed bs) (drop 3 bs) (omega (arith, length-drop 3 bs))) at (sym front)
