@@ -1,0 +1,15 @@
+pub mod Laying
+pub mod RowLaws
+pub mod Walks
+pub mod Putting
+pub mod Lengths
+pub mod Things
+pub mod ReadsWritten
+pub mod WritesRead
+pub mod Form
+pub mod RoundTrip
+pub mod Results
+pub mod Heads
+pub mod Kept
+pub mod Spots
+pub mod Filling

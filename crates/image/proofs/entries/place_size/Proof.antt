@@ -1,0 +1,17 @@
+-- `image::entries::place_size` meets its contract. Assumes nothing.
+use borrow.Author.Tests.{eq-eqb, ne-eqb}
+use Rattle.image.proofs.entries.place_size.Statement.{statement}
+use Rattle.image.proofs.entries.place_size.Tie as tie
+
+returns : tie.Need-returns
+returns c = rw (eq-eqb _ _ (c .if1 .taken))
+
+returns-2 : tie.Need-returns-2
+returns-2 c = rw (ne-eqb _ _ (c .if1 .left))
+
+pub place-size-spec : {M : Type 1} → statement M
+place-size-spec =
+    tie.close
+    (tie.spec
+    returns
+    returns-2)

@@ -1,0 +1,9 @@
+pub mod Rows
+pub mod Format
+pub mod Fit
+pub mod Image
+pub mod Reading
+pub mod Writing
+pub mod Code
+pub mod Form
+pub mod RoundTrip

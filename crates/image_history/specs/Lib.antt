@@ -1,0 +1,2 @@
+pub mod AfterLoad
+pub mod UnknownHistory
