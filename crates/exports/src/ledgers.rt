@@ -8,6 +8,7 @@ ghost use Rattle.ledger.specs.Step.{judged};
 ghost use Rattle.exports.specs.Codec.{stepSize, verdictSize, verdictNumbers, kindOf};
 ghost use Rattle.exports.specs.Ledgers.{fresh, soundness, current, version, requestOf, step};
 use crate::NO_PLACE;
+use crate::NOT_SOUND;
 use crate::STEP;
 use crate::VERDICT;
 use crate::codec;
@@ -22,10 +23,8 @@ use rules::PLACES;
 use rules::Step;
 use rules::Verdict;
 
-// What the calls answer of a ledger: it is sound, or the number of row 1.
+// What the calls answer of a ledger that is sound.
 const SOUND: u64 = 0;
-
-const NOT_SOUND: u64 = 1;
 
 // The current manifest's number, the writer's epoch, the compactor's.
 const CURRENT: usize = 3;

@@ -14,6 +14,9 @@ pub const VERDICT: usize = 3;
 // What the calls answer where there is nothing to answer with: room is short, no reader takes it, no place is lent.
 pub const FULL: u64 = 0;
 
+// The number of row 1.
+pub const NOT_SOUND: u64 = 1;
+
 pub const MALFORMED: u64 = 2;
 
 pub const NO_PLACE: u64 = 3;
