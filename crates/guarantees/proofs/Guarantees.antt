@@ -32,9 +32,15 @@ use Rattle.desk.proofs.Onward.{onward}
 use Rattle.listing.proofs.Cutting.{cut}
 use Rattle.listing.proofs.Whole as listing
 use Rattle.ledger_numbers.proofs.Exact.{numbers-exact}
-use Rattle.guarantees.specs.Guarantees.{AsNumbers, Demand1, Demand2, Demand3, Guarantees, Request1, Request2, Request3, Request4, Request5, Request13}
+use Rattle.image.proofs.RoundTrip.{image-round-trip}
+use Rattle.image.proofs.Form.{image-form}
+use Rattle.image.proofs.Results.{write-unsound}
+use Rattle.image_history.proofs.AfterLoad.{after-load}
+use Rattle.image_history.proofs.UnknownHistory.{unknown-history}
+use Rattle.guarantees.specs.Guarantees.{AsNumbers, Demand1, Demand2, Demand3, Guarantees, Request1, Request2, Request3, Request4, Request5, Request6, Request13}
 use Rattle.guarantees.proofs.Calls.{refused-sale, refused-step, unsound-run}
 use Rattle.guarantees.proofs.Compaction.{compactions-on-ledger}
+use Rattle.guarantees.proofs.Images as images
 use Rattle.guarantees.proofs.Struck.{ledger-kept, strikable-on-ledger, verdicts-kept}
 use Rattle.guarantees.proofs.Fronts.{full, no-step-record, refused-record, torn, untouched}
 use Rattle.guarantees.proofs.Buffers.{steps-on-buffers, verdicts-on-buffers}
@@ -108,6 +114,22 @@ request4 = record { occupancy = occupancy-by-words; oldVerdicts = old-verdicts-k
 request5 : Request5
 request5 = record { lines = cut; whole = listing.whole }
 
+request6 : Request6
+request6 = record {
+  readsWritten = images.reads-written;
+  writesRead = images.writes-read;
+  besideRefusal = images.beside-refusal;
+  sound = images.read-sound;
+  unsound = write-unsound;
+  roundTrip = image-round-trip;
+  form = image-form;
+  longest = image-round-trip .longest;
+  collects = images.collects;
+  keeps = images.keeps;
+  afterLoad = after-load;
+  unknown = unknown-history;
+}
+
 request13 : Request13
 request13 = record {
   compactions = compactions;
@@ -134,6 +156,7 @@ guarantees = record {
   request3 = request3;
   request4 = request4;
   request5 = request5;
+  request6 = request6;
   request13 = request13;
   asNumbers = as-numbers;
 }

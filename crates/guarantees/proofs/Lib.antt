@@ -4,4 +4,5 @@ pub mod Buffers
 pub mod Sequences
 pub mod Compaction
 pub mod Struck
+pub mod Images
 pub mod Guarantees

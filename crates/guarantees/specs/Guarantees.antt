@@ -12,6 +12,7 @@
 --   sheets::read_sheet    decodeSheet                     sheets::write_sheet      sheetWriting
 --   desk::sell            saleOf                          desk::fill_card          cardOf and answerOf
 --   manifests::reaches    reachOf                         listing::read_listing    listingOf
+--   image::write_image    writingOf                       image::read_image        readOf
 use mathlib.Core.Path.{_≡_}
 use mathlib.Core.Logic.{_⊎_, _↔_}
 use mathlib.Core.Bool.{Bool, true, false, not, _&&_}
@@ -28,10 +29,11 @@ use Rattle.rules.specs.declared.Answer.{Answer}
 use Rattle.rules.specs.declared.Answer.the-variants.{Collected}
 use Rattle.rules.specs.declared.Step.{Step}
 use Rattle.rules.specs.declared.Verdict.{Verdict}
-use Rattle.rules.specs.Lists.{has, none, risingAbove}
+use Rattle.rules.specs.Lists.{all, has, none, risingAbove}
 use Rattle.rules.specs.Limits.{Limits, limits}
 use Rattle.rules.specs.State.{State, fresh}
 use Rattle.rules.specs.Words.{stored, listed, currencyOf}
+use Rattle.rules.specs.Sound as rules
 use Rattle.rules.specs.Table.{Row, wellFormed}
 use Rattle.rules.specs.Request.{Request, Asked, Unreadable, Ask}
 use Rattle.rules.specs.Step.{code, effect, granted, rowsOf}
@@ -62,6 +64,7 @@ use Rattle.manifests.specs.Reach.{ReachByHalves}
 use Rattle.ledger.specs.declared.Ledger.{Ledger}
 use Rattle.ledger.specs.Ledger.{lay, view, isSound}
 use Rattle.ledger.specs.SoundLaw.{SoundLayout}
+use Rattle.ledger.specs.SoundLaw as ledger
 use Rattle.ledger.specs.Step.{refusedWith, answeredWith, judged}
 use Rattle.ledger.specs.Look.{LookOutcome}
 use Rattle.ledger.specs.Demand3.{verdictSize, keptAfter, ledgerAfter, Delivered}
@@ -79,6 +82,15 @@ use Rattle.desk.specs.Charge.{ChargeIsSmallest}
 use Rattle.desk.specs.Sale.{saleOf}
 use Rattle.desk.specs.NoRate.{SaleExact, LookedExact, NoRateNoCharge}
 use Rattle.desk.specs.Onward.{Onward}
+use Rattle.image.specs.declared.Reading.the-variants.{Read as Loaded}
+use Rattle.image.specs.declared.ImageWrite.the-variants.{Written as Saved, Unsound as NotSound}
+use Rattle.image.specs.Image.{imageOf}
+use Rattle.image.specs.Reading.{readOf, readCode}
+use Rattle.image.specs.Writing.{writingOf}
+use Rattle.image.specs.RoundTrip.{Fits, ImageRoundTrip}
+use Rattle.image.specs.Form.{ImageForm}
+use Rattle.image_history.specs.AfterLoad.{Event, keptAll, pathAll, atStart, noSteps, eventFits, AfterLoad}
+use Rattle.image_history.specs.UnknownHistory.{UnknownHistory}
 use Rattle.exports.specs.Codec.{kindOf}
 use Rattle.exports.specs.Ledgers.{requestOf as requestIn, step}
 use Rattle.exports.specs.Runs.{runOn}
@@ -179,8 +191,11 @@ keptBy asks = ledgerAfter (lay fresh) asks
 abbrev pub collectAt : ℕ → Request
 collectAt t = Asked t COLLECT []
 
+abbrev pub collectedBy : ℕ → Ledger → List ℕ
+collectedBy t l = objectsOf (judged l (collectAt t) .verdict .list)
+
 abbrev pub collectedAt : ℕ → List Ask → List ℕ
-collectedAt t asks = objectsOf (judged (keptBy asks) (collectAt t) .verdict .list)
+collectedAt t asks = collectedBy t (keptBy asks)
 
 pub record Demand3 : Type 0 where
   -- a collection asked next, at any time, and accepted, lists, rising and once each, exactly what the history says is dead at its time
@@ -246,6 +261,43 @@ pub record Request5 : Type 0 where
   pub lines : Cut
   pub whole : listing.Whole
 
+-- [6] a ledger is saved as an image, and loaded
+
+-- the ledger after steps, saves and loads in any order, and the steps that led to it: after a load those that led to the image, then those after it
+abbrev pub loadedAfter : List Event → Ledger
+loadedAfter es = keptAll atStart es .ledger
+
+abbrev pub ledTo : List Event → List Ask
+ledTo es = pathAll noSteps es .asked
+
+pub record Request6 : Type 0 where
+  -- on what the operations promise: what was written into a buffer is read as the ledger, free places included; its arrays and numbers are as its type says
+  pub readsWritten : (l : Ledger) → ledger.Whole l → Fits (view l) → (buffer : List ℕ) (n : ℕ) → writingOf l buffer .answer ≡ Saved n
+      → readOf (take n (writingOf l buffer .buffer)) ≡ record { reading = Loaded; ledger = l }
+  -- what was read is written, where there is room, as the bytes that it was read from; those beyond stay
+  pub writesRead : (l : Ledger) (bytes buffer : List ℕ) → areBytes bytes ≡ true → readOf bytes ≡ record { reading = Loaded; ledger = l } → length bytes ≤ length buffer
+      → writingOf l buffer ≡ record { answer = Saved (length bytes); buffer = over bytes buffer }
+  -- beside a refusal stands the fresh ledger; a ledger that was read is sound; one that is not is never written
+  pub besideRefusal : (bytes : List ℕ) → (readCode (readOf bytes .reading) ≡ 0 → ⊥) → readOf bytes .ledger ≡ lay fresh
+  pub sound : (bytes : List ℕ) → isSound (readOf bytes .ledger) ≡ true
+  pub unsound : (l : Ledger) (buffer : List ℕ) → isSound l ≡ false → writingOf l buffer ≡ record { answer = NotSound; buffer = buffer }
+  -- "A sound ledger has exactly one image", and all else is refused; which bytes have the form (else 2), and what they say (1 where that is not sound)
+  pub roundTrip : ImageRoundTrip
+  pub form : ImageForm
+  -- no image is longer, and one is as long
+  pub longest : (s : State) → rules.sound limits s ≡ true → length (imageOf s) ≤ 11240
+  -- "After a load, even of an older ledger, the third demand's history is the one that led to the image, then the steps after it": demand 3 of the ledger
+  -- after any steps, saves and loads of any earlier save
+  pub collects : (es : List Event) → all eventFits es ≡ true → (t : ℕ) → numberOn (loadedAfter es) (collectAt t) ≡ 0
+      → (risingAbove 0 (collectedBy t (loadedAfter es)) ≡ true) × ((n : ℕ) → has n (collectedBy t (loadedAfter es)) ≡ deadAt t (historyOf (ledTo es)) n)
+  pub keeps : (es : List Event) → all eventFits es ≡ true → (t : ℕ) → loadedAfter es .clock ≤ t → (n : ℕ)
+      → (listedAt t (historyOf (ledTo es)) n ≡ true) ⊎ (listed t (view (loadedAfter es)) n ≡ true)
+      → (storedAt (historyOf (ledTo es)) n ≡ true) × (stored (view (loadedAfter es)) n ≡ true)
+  pub afterLoad : AfterLoad
+  -- of an image of unknown history, and so of every sound ledger, with any further steps: a collection is exact by the ledger's own words, and no listed
+  -- object is missing
+  pub unknown : UnknownHistory
+
 -- [13] looks just before and just after an accepted COMPACT, both at its time; refused steps that are struck from a trace
 
 -- on the ledger's own step: what a LOOK is told
@@ -306,5 +358,6 @@ pub record Guarantees : Type 0 where
   pub request3 : Request3
   pub request4 : Request4
   pub request5 : Request5
+  pub request6 : Request6
   pub request13 : Request13
   pub asNumbers : AsNumbers
