@@ -3,8 +3,10 @@
 
 pub mod compactions;
 pub mod guided;
+pub mod images;
 pub mod listings;
 pub mod loose;
+pub mod measured;
 pub mod names;
 pub mod sheets;
 pub mod stocked;

@@ -26,6 +26,22 @@ pub const NAME: usize = 8;
 pub const LONGEST_VERDICT: usize = COLLECTED + NAME * PLACES;
 pub const LONGEST_STEP: usize = COMMIT + NAME * NAMES;
 
+/// The bytes of a field's tag and length.
+pub const HEADER: usize = 3;
+/// The bytes of an image beside its entries: the header, and the fields of the
+/// edition and of two numbers.
+pub const IMAGE: usize = HEADER + HEADER + 1 + 2 * (HEADER + 8);
+/// The bytes of an object's value in an image (place, object, role, epoch,
+/// currency, named), of a manifest's beside its names, and of a hold's.
+pub const OBJECT_VALUE: usize = 1 + 8 + 1 + 8 + 2 + 1;
+pub const MANIFEST_VALUE: usize = 8 + 8 + 8;
+pub const HOLD_VALUE: usize = 8 + 8 + 8;
+/// The longest image has as many entries and names as there are places.
+pub const LONGEST_IMAGE: usize = IMAGE
+    + PLACES * (HEADER + OBJECT_VALUE)
+    + MANIFESTS * (HEADER + MANIFEST_VALUE + NAME * NAMES)
+    + HOLDS * (HEADER + HOLD_VALUE);
+
 /// The two limits that request 4 raises, as a value: traces are also run at
 /// the old ones.
 #[derive(Debug, Clone, Copy, PartialEq, Eq)]
@@ -49,5 +65,7 @@ mod tests {
         assert_eq!(Limits::NOW, Limits { places: 256, names: 64 });
         assert_eq!((MANIFESTS, HOLDS), (9, 8));
         assert_eq!((LONGEST_VERDICT, LONGEST_STEP), (2058, 551));
+        assert_eq!((OBJECT_VALUE, MANIFEST_VALUE, HOLD_VALUE), (21, 24, 24));
+        assert_eq!(LONGEST_IMAGE, 11_240);
     }
 }

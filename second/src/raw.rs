@@ -53,7 +53,7 @@ impl RawManifest {
     }
 
     /// The names within the length; `None` where it is above the places.
-    fn list(&self) -> Option<&[u64]> {
+    pub fn list(&self) -> Option<&[u64]> {
         self.names.get(..usize::try_from(self.length).ok()?)
     }
 
@@ -67,7 +67,21 @@ impl RawManifest {
 }
 
 impl Raw {
-    fn occupied(&self, place: usize) -> bool {
+    /// With these two numbers, and all places unused.
+    pub fn unused(clock: u64, highest_collected: u64) -> Self {
+        Raw {
+            clock,
+            highest_collected,
+            occupancy: [0; WORDS],
+            objects: vec![RawObject::default(); PLACES],
+            manifest_count: 0,
+            manifests: vec![RawManifest::unused(); MANIFESTS],
+            hold_count: 0,
+            holds: vec![RawHold::default(); HOLDS],
+        }
+    }
+
+    pub fn occupied(&self, place: usize) -> bool {
         self.occupancy[place / WORD] >> (place % WORD) & 1 == 1
     }
 
@@ -80,11 +94,13 @@ impl Raw {
         stored
     }
 
-    fn kept(&self) -> &[RawManifest] {
+    /// The manifests within the count, which must be one that a ledger has.
+    pub fn kept(&self) -> &[RawManifest] {
         &self.manifests[..self.manifest_count as usize]
     }
 
-    fn held(&self) -> &[RawHold] {
+    /// The holds within the count, which must be one that a ledger has.
+    pub fn held(&self) -> &[RawHold] {
         &self.holds[..self.hold_count as usize]
     }
 }
@@ -188,16 +204,9 @@ fn holds_sound(raw: &Raw) -> bool {
 }
 
 pub fn raw(ledger: &Ledger) -> Raw {
-    let mut raw = Raw {
-        clock: ledger.clock,
-        highest_collected: ledger.highest_collected,
-        occupancy: [0; WORDS],
-        objects: vec![RawObject::default(); PLACES],
-        manifest_count: ledger.manifests.len() as u64,
-        manifests: vec![RawManifest::unused(); MANIFESTS],
-        hold_count: ledger.holds.len() as u64,
-        holds: vec![RawHold::default(); HOLDS],
-    };
+    let mut raw = Raw::unused(ledger.clock, ledger.highest_collected);
+    raw.manifest_count = ledger.manifests.len() as u64;
+    raw.hold_count = ledger.holds.len() as u64;
     for (number, object) in &ledger.objects {
         raw.occupancy[object.place / WORD] |= 1 << (object.place % WORD);
         raw.objects[object.place] = RawObject {

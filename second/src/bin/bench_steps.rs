@@ -15,17 +15,15 @@ use second::compare::desk::{self, FillCall, SellCall, ENTRY, SALE};
 use second::compare::ledgers::{self, ledger_numbers, StepCall, LEDGER};
 use second::compare::records::{put_verdict, step_numbers, STEP, VERDICT};
 use second::desk::{write_sheet, Sheet};
+use second::generate::measured::{at, full, sample, FIRST, TIME};
 use second::ledger::Ledger;
-use second::limits::{Limits, HOLDS, MANIFESTS, NAMES, PLACES};
+use second::limits::{Limits, NAMES, PLACES};
 use second::proved;
 use second::raw::raw;
 use second::records::{Kind, Role, Step, Verdict};
 
 const ROUNDS: usize = 21;
 const CALLS: u32 = 1_000;
-const TIME: u64 = 1_700_000_000;
-/// The number of the first manifest behind the fences.
-const FIRST: u64 = 4;
 
 /// The nanoseconds of one call in each round, in rising order.
 fn rounds(mut call: impl FnMut()) -> Vec<f64> {
@@ -37,71 +35,6 @@ fn rounds(mut call: impl FnMut()) -> Vec<f64> {
     let mut times: Vec<f64> = (0..ROUNDS).map(round).collect();
     times.sort_by(f64::total_cmp);
     times
-}
-
-fn at(kind: Kind, list: &[u64]) -> Step {
-    Step { time: TIME, kind, list: list.to_vec() }
-}
-
-/// The fresh ledger after two fences of the writer and one of the compactor.
-fn fenced() -> Ledger {
-    let mut ledger = Ledger::fresh();
-    for (slot, role) in [(1, Role::Writer), (2, Role::Compactor), (3, Role::Writer)] {
-        accept(&mut ledger, Kind::Fence { role, slot }, &[]);
-    }
-    ledger
-}
-
-fn accept(ledger: &mut Ledger, kind: Kind, list: &[u64]) {
-    assert_eq!(ledger.step(&at(kind, list)).code(), 0, "{kind:?}");
-}
-
-/// As many objects as there are places, nine manifests of as many names as they
-/// may have, from number 4, and a hold on all but the last. Each names a quarter
-/// of them that the one before does not, so three quarters of the objects are
-/// named; the others are dead, for the writer's epoch is 2. Of the first
-/// currency is object 1 alone, the lowest name of manifest 4.
-fn full(limits: Limits, currencies: [u16; 2]) -> Ledger {
-    let mut ledger = fenced();
-    let (places, names) = (limits.places as u64, limits.names as u64);
-    for object in 1..=places {
-        let currency = currencies[usize::from(object != 1)];
-        accept(&mut ledger, Kind::Put { role: Role::Writer, epoch: 1, object, currency }, &[]);
-    }
-    let last = FIRST + HOLDS as u64;
-    for slot in FIRST..=last {
-        let lowest = names / 4 * (slot - FIRST) + 1;
-        let list: Vec<u64> = (lowest..lowest + names).collect();
-        accept(&mut ledger, Kind::Commit { epoch: 2, slot }, &list);
-        if slot < last {
-            accept(&mut ledger, Kind::Hold { hold: slot, manifest: slot, expiry: 0 }, &[]);
-        }
-    }
-    let held = (ledger.objects.len(), ledger.manifests.len(), ledger.holds.len());
-    assert_eq!(held, (limits.places, MANIFESTS, HOLDS));
-    ledger
-}
-
-/// Objects 1 to 32 of four currencies, manifests 4 to 7 and a hold on each.
-fn sample() -> Ledger {
-    let mut ledger = fenced();
-    let mut accept = |kind: Kind, list: &[u64]| accept(&mut ledger, kind, list);
-    for object in 1..=32 {
-        let currency = [756, 840, 978, 985][object as usize % 4];
-        let role = if object % 8 == 0 { Role::Compactor } else { Role::Writer };
-        // Half of the writer's are of an older epoch, so collections find some.
-        let epoch = if object % 2 == 0 { 1 } else { 2 };
-        let epoch = if role == Role::Compactor { 1 } else { epoch };
-        accept(Kind::Put { role, epoch, object, currency }, &[]);
-    }
-    for slot in 4..=7 {
-        let list: Vec<u64> = (slot..slot + 12).collect();
-        accept(Kind::Commit { epoch: 2, slot }, &list);
-        accept(Kind::Hold { hold: slot, manifest: slot, expiry: TIME + slot }, &[]);
-    }
-    let held = (ledger.objects.len(), ledger.manifests.len(), ledger.holds.len());
-    assert_eq!(held, (32, 4, 4));
-    ledger
 }
 
 fn call(step: StepCall, ledger: &[u64], asked: &Step) -> Vec<f64> {

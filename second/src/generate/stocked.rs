@@ -11,11 +11,16 @@ use crate::records::Role;
 const CURRENCIES: [u16; 5] = [0, 1, 756, 978, 999];
 
 pub fn ledger(random: &mut Random) -> Ledger {
+    sized(random, PLACES, NAMES)
+}
+
+/// With at most so many objects, and names in a manifest.
+pub fn sized(random: &mut Random, objects: usize, names: usize) -> Ledger {
     let mut ledger = Ledger::fresh();
     ledger.clock = random.below(1000);
     fence(random, &mut ledger);
-    store(random, &mut ledger);
-    publish(random, &mut ledger);
+    store(random, &mut ledger, objects);
+    publish(random, &mut ledger, names);
     hold(random, &mut ledger);
     ledger
 }
@@ -42,14 +47,14 @@ fn fence(random: &mut Random, ledger: &mut Ledger) {
 }
 
 /// Objects at the lowest places or at any.
-fn store(random: &mut Random, ledger: &mut Ledger) {
+fn store(random: &mut Random, ledger: &mut Ledger, most: usize) {
     let mut places: Vec<usize> = (0..PLACES).collect();
     if random.once_in(2) {
         for place in 0..PLACES {
             places.swap(place, random.index(PLACES));
         }
     }
-    places.truncate(up_to(random, PLACES));
+    places.truncate(up_to(random, most));
     let mut number = random.below(100);
     for place in places {
         number += 1 + random.below(4);
@@ -62,10 +67,10 @@ fn store(random: &mut Random, ledger: &mut Ledger) {
 }
 
 /// A list in each manifest.
-fn publish(random: &mut Random, ledger: &mut Ledger) {
+fn publish(random: &mut Random, ledger: &mut Ledger, most: usize) {
     let numbers: Vec<u64> = ledger.manifests.keys().copied().collect();
     for number in numbers {
-        let wanted = up_to(random, NAMES);
+        let wanted = up_to(random, most);
         let list = some_stored(random, ledger, wanted);
         for name in &list {
             ledger.objects.get_mut(name).expect("it is stored").named = true;
