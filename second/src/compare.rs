@@ -7,6 +7,7 @@
 
 pub mod compaction;
 pub mod desk;
+pub mod images;
 pub mod ledgers;
 pub mod listing;
 pub mod records;

@@ -106,6 +106,12 @@ extern "C" {
         -> u64;
 }
 
+#[link(name = "image_exports", kind = "static")]
+extern "C" {
+    fn cuudhaqil_read_image(image: *const u8, n: usize, ledger: *mut u64, size: usize) -> u64;
+    fn cuudhaqil_write_image(ledger: *const u64, size: usize, out: *mut u8, room: usize) -> u64;
+}
+
 pub fn read_name(name: &[u8], number: &mut [u64]) -> u64 {
     let (numbers, place) = (number.len(), number.as_mut_ptr());
     // SAFETY: both pointers come from slices of the lengths given.
@@ -246,4 +252,16 @@ pub fn read_listing(listing: &[u8], numbers: &mut [u64]) -> u64 {
     let (n, count) = (listing.len(), numbers.len());
     // SAFETY: both pointers come from slices of the lengths given.
     unsafe { cuudhaqil_read_listing(listing.as_ptr(), n, numbers.as_mut_ptr(), count) }
+}
+
+pub fn read_image(image: &[u8], ledger: &mut [u64]) -> u64 {
+    let (n, size) = (image.len(), ledger.len());
+    // SAFETY: both pointers come from slices of the lengths given.
+    unsafe { cuudhaqil_read_image(image.as_ptr(), n, ledger.as_mut_ptr(), size) }
+}
+
+pub fn write_image(ledger: &[u64], out: &mut [u8]) -> u64 {
+    let (size, room) = (ledger.len(), out.len());
+    // SAFETY: both pointers come from slices of the lengths given.
+    unsafe { cuudhaqil_write_image(ledger.as_ptr(), size, out.as_mut_ptr(), room) }
 }

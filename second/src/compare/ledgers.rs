@@ -68,7 +68,8 @@ pub fn raw_of(numbers: &[u64]) -> Raw {
 }
 
 pub fn ledger_numbers(raw: &Raw) -> Vec<u64> {
-    let mut numbers = vec![raw.clock, raw.highest_collected];
+    let mut numbers = Vec::with_capacity(LEDGER);
+    numbers.extend([raw.clock, raw.highest_collected]);
     numbers.extend(raw.occupancy);
     for object in &raw.objects {
         let RawObject { number, role, epoch, currency, named } = *object;

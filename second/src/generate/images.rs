@@ -3,6 +3,7 @@
 
 mod bytes;
 mod fields;
+pub mod ledgers;
 
 use super::guided::Guide;
 use super::{measured, stocked};

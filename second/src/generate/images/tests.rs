@@ -2,7 +2,9 @@
 
 use std::collections::BTreeMap;
 
+use super::ledgers::{Damage, DAMAGES};
 use super::*;
+use crate::compare::ledgers::raw_of;
 use crate::limits::{HOLDS, LONGEST_IMAGE, MANIFESTS, PLACES};
 use crate::raw::sound;
 
@@ -53,4 +55,23 @@ fn ledgers_are_sound_and_of_every_size() {
     assert!(objects.iter().all(|times| *times > 0), "{objects:?}");
     assert!(manifests[1..].iter().chain(&holds[..=HOLDS]).all(|times| *times > 200));
     assert!(longest > 200 && holes > 2_000, "{longest} {holes}");
+}
+
+#[test]
+fn every_damage_but_any_makes_a_ledger_unsound() {
+    let (mut random, mut source) = (Random::new(5), Source::new(6));
+    let mut judged: BTreeMap<(Damage, bool), usize> = BTreeMap::new();
+    for _ in 0..20_000 {
+        let (damage, numbers) = source.numbers(&mut random);
+        *judged.entry((damage, sound(&raw_of(&numbers)))).or_default() += 1;
+    }
+    println!("{judged:?}");
+    for damage in DAMAGES {
+        for sound in [false, true] {
+            let times = judged.get(&(damage, sound)).copied().unwrap_or(0);
+            let wanted = damage == Damage::Any || sound == (damage == Damage::None);
+            assert_eq!(times > 200, wanted, "{damage:?} is {sound}: {times}");
+            assert!(wanted || times == 0, "{damage:?} is {sound}: {times}");
+        }
+    }
 }
