@@ -7,7 +7,7 @@ use std::process::Command;
 
 use second::compare::ledgers::LEDGER;
 use second::compare::listing::LISTING;
-use second::limits::{LONGEST_STEP, LONGEST_VERDICT, NAMES, PLACES};
+use second::limits::{LONGEST_IMAGE, LONGEST_STEP, LONGEST_VERDICT, NAMES, PLACES};
 
 const C: &str = "cc -O2 -Wall -Wextra -Werror -Iinclude examples/depot_week.c \
                  -Ltarget/staticlib -lexports";
@@ -62,6 +62,7 @@ fn the_header_s_sizes_are_those_of_the_documents() {
     assert_eq!(in_header(header, "CUUDHAQIL_LONGEST_STEP"), LONGEST_STEP);
     assert_eq!(in_header(header, "CUUDHAQIL_LONGEST_VERDICT"), LONGEST_VERDICT);
     assert_eq!(in_header("cuudhaqil_listing.h", "CUUDHAQIL_LISTING"), LISTING);
+    assert_eq!(in_header("cuudhaqil_image.h", "CUUDHAQIL_LONGEST_IMAGE"), LONGEST_IMAGE);
 }
 
 #[test]

@@ -2,13 +2,17 @@
 
 use std::thread;
 
-use second::compare::ledgers::{compare_sequence, Calls, Counts, Course, LEDGER, SECOND};
+use second::compare::ledgers::{
+    compare_sequence, ledger_numbers, Calls, Counts, Course, LEDGER, SECOND,
+};
 use second::compare::Answers;
 use second::depot;
 use second::generate::guided::Guide;
-use second::limits::{NAMES, PLACES, WORDS};
+use second::generate::measured;
+use second::limits::{Limits, LONGEST_IMAGE, NAMES, PLACES, WORDS};
 use second::proved;
 use second::random::Random;
+use second::raw::raw;
 
 const PROVED: Calls = Calls {
     fresh: proved::fresh,
@@ -94,11 +98,21 @@ fn header_number(name: &str) -> usize {
     rest.split_once([',', '\n']).expect(name).0.parse().expect(name)
 }
 
+/// The longest image both ways, and one that is refused.
+fn image_calls(full: &[u64], ledger: &mut [u64]) {
+    let mut image = vec![0; LONGEST_IMAGE];
+    assert_eq!(proved::write_image(full, &mut image), LONGEST_IMAGE as u64);
+    assert_eq!(proved::read_image(&image, ledger), 0);
+    assert_eq!(ledger, full);
+    assert_eq!(proved::read_image(&image[1..], ledger), 2);
+}
+
 /// A thread that has no more stack than the header says runs every call. A
 /// call that needs more ends the tests.
 #[test]
 fn the_stack_that_the_header_says_is_enough() {
-    let calls = || {
+    let full = ledger_numbers(&raw(&measured::full(Limits::NOW, [756, 978])));
+    let calls = move || {
         let (mut ledger, mut counts) = (vec![0; LEDGER], [0; 2]);
         let (mut verdict, mut objects, mut list) = ([0; 3], vec![0; PLACES], vec![0; PLACES]);
         let (mut out, mut numbers) = (vec![0; 4_096], [0; 11]);
@@ -127,6 +141,7 @@ fn the_stack_that_the_header_says_is_enough() {
         assert_eq!(proved::write_name(1, 1, &mut out), 28);
         assert_eq!(proved::read_name(&out[..28], &mut numbers), 1);
         assert_eq!(proved::read_listing(listing, &mut numbers), 0);
+        image_calls(&full, &mut ledger);
     };
     let thread = thread::Builder::new().stack_size(header_number("CUUDHAQIL_STACK"));
     thread.spawn(calls).expect("a thread").join().expect("the calls");

@@ -9,12 +9,17 @@ use second::compare::ledgers::LEDGER;
 use second::compare::listing::LISTING;
 use second::compare::records::{STEP, VERDICT};
 use second::compare::traces::COUNTS;
-use second::limits::{LONGEST_VERDICT, PLACES};
+use second::limits::{LONGEST_IMAGE, LONGEST_VERDICT, PLACES};
 use second::proved;
 
 /// The files, and how many vectors each has at least.
-const FILES: [(&str, usize); 4] =
-    [("names.txt", 77), ("records.txt", 157), ("sheets_and_sales.txt", 55), ("listings.txt", 26)];
+const FILES: [(&str, usize); 5] = [
+    ("names.txt", 77),
+    ("records.txt", 157),
+    ("sheets_and_sales.txt", 55),
+    ("listings.txt", 26),
+    ("images.txt", 177),
+];
 
 /// What a lent byte and a lent number are before the call.
 const BYTE: u8 = 0xEE;
@@ -147,11 +152,21 @@ fn list_of(text: &str) -> Option<Vec<u64>> {
 }
 
 /// The bytes of a text in quotes, or of pairs of digits, among which each
-/// number of `1..64` has eight.
+/// number of `1..64` has eight, and `each 0..255 { }` has what stands in it for
+/// each of the numbers: n is the number in one byte, N the next one in eight.
 fn bytes_of(text: &str) -> Option<Vec<u8>> {
     if let Some(text) = text.strip_prefix('"') {
         let text = text.strip_suffix('"')?;
         return Some(text.replace("\\n", "\n").replace("\\r", "\r").into_bytes());
+    }
+    if let Some((before, rest)) = text.split_once("each ") {
+        let (numbers, rest) = rest.split_once(" {")?;
+        let (inner, behind) = rest.split_once('}')?;
+        let of = |n: &u64| {
+            inner.replace('n', &format!("{n:02X}")).replace('N', &format!("{:016X}", n + 1))
+        };
+        let each: String = list_of(numbers)?.iter().map(of).collect();
+        return bytes_of(&format!("{before}{each}{behind}"));
     }
     let mut digits = String::new();
     for word in text.split_whitespace() {
@@ -174,11 +189,12 @@ fn in_room(text: &str) -> Option<(&str, usize)> {
 fn written(room: usize, write: impl FnOnce(&mut [u8]) -> u64) -> String {
     let mut out = vec![BYTE; room + BEHIND];
     let answer = write(&mut out[..room]);
-    let length = if [0, 2].contains(&answer) { 0 } else { answer as usize };
+    let length = if answer <= 2 { 0 } else { answer as usize };
     let stay = out[length..].iter().all(|byte| *byte == BYTE);
     let stay = if stay { "as before" } else { "changed" };
     match answer {
         0 => format!("full, all bytes {stay}"),
+        1 => format!("unsound, all bytes {stay}"),
         2 => format!("malformed, all bytes {stay}"),
         _ => format!("written {length}: {:02X?}; bytes behind {stay}", &out[..length]),
     }
@@ -200,6 +216,33 @@ fn listing(bytes: &[u8]) -> String {
     let said = |is: u64, number: u64| if is == 0 { "none".to_string() } else { number.to_string() };
     let (manifest, bad) = (said(has_manifest, manifest), said(is_bad, bad));
     format!("manifest {manifest}, objects {objects}, bad {bad}")
+}
+
+/// Reads an image, and says whether what it says is written as these bytes; the
+/// lines behind this one are about the ledger that it leaves.
+fn image(ledger: &mut [u64], bytes: &[u8]) -> String {
+    let mut fresh = [NUMBER; LEDGER];
+    proved::fresh(&mut fresh);
+    ledger.fill(NUMBER);
+    let answer = proved::read_image(bytes, ledger);
+    let beside = if *ledger == fresh { "the fresh ledger" } else { "another ledger" };
+    match answer {
+        0 => {}
+        1 => return format!("unsound, {beside} beside it"),
+        2 => return format!("malformed, {beside} beside it"),
+        answer => return format!("answer {answer}"),
+    }
+    let same = format!("written {}: {bytes:02X?}; bytes behind as before", bytes.len());
+    let again = written(LONGEST_IMAGE, |out| proved::write_image(ledger, out));
+    let again = if again == same { "written the same" } else { &again };
+    format!("read, clock {}, collected {}; {again}", ledger[0], ledger[1])
+}
+
+/// Some of the ledger's numbers.
+fn numbers(ledger: &[u64], places: &str) -> Option<String> {
+    let (first, last) = places.split_once("..")?;
+    let numbers = ledger.get(first.parse().ok()?..=last.parse().ok()?)?;
+    Some(list_words(numbers).trim_start().to_string())
 }
 
 /// Runs a trace; the lines behind this one are about the ledger that it leaves.
@@ -267,6 +310,12 @@ fn outcome(ledger: &mut [u64], asked: &str) -> Option<String> {
             length => format!("record of {length}"),
         }),
         "listing" => Some(listing(&bytes_of(text)?)),
+        "image" => Some(image(ledger, &bytes_of(text)?)),
+        "save" => {
+            let room = text.strip_prefix("in ")?.parse().ok()?;
+            Some(written(room, |out| proved::write_image(ledger, out)))
+        }
+        "numbers" => numbers(ledger, text),
         "run" => run(ledger, text),
         "number" => change(ledger, text),
         "sell" => sell(ledger.to_vec(), text),
