@@ -42,7 +42,7 @@ pub enum Sort {
     OtherEdition,
     OtherFlag,
     PlacesNotRising,
-    OneTooMany,
+    TooMany,
     FormBeforeSoundness,
     /// Of values, where they are a matter of soundness.
     AsManyAsPlaces,
@@ -83,7 +83,7 @@ pub const SORTS: [(Sort, &[u64]); 34] = [
     (OtherEdition, &[2]),
     (OtherFlag, &[2]),
     (PlacesNotRising, &[2]),
-    (OneTooMany, &[2]),
+    (TooMany, &[2]),
     (FormBeforeSoundness, &[2]),
     (AsManyAsPlaces, &[0, 1]),
     (PlacesSpread, &[0]),

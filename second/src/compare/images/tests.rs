@@ -12,7 +12,7 @@ use crate::generate::images::ledgers::DAMAGES;
 use crate::generate::images::{joined, split, Fields, SORTS};
 use crate::generate::with_length;
 use crate::image::{HOLD, MANIFEST, OBJECT};
-use crate::limits::{HOLDS, MANIFESTS, MANIFEST_VALUE, NAME, NAMES, WORD, WORDS};
+use crate::limits::{HOLDS, MANIFESTS, MANIFEST_VALUE, NAME, NAMES, OBJECT_VALUE, WORD, WORDS};
 use crate::raw::{self, Raw, RawManifest, RawObject};
 use crate::records::split_record;
 
@@ -134,7 +134,7 @@ fn holes_and_marks_that_are_not_kept_are_found() {
 }
 
 #[test]
-fn what_stays_is_compared() {
+fn bytes_that_stay_are_compared() {
     wrong_write("None: written in", |ledger, out| {
         let answer = write_image(ledger, out);
         if answer == FULL {
@@ -149,7 +149,11 @@ fn what_stays_is_compared() {
         }
         answer
     });
-    // The ledger that was lent stays beside a refusal; or the unsound one.
+}
+
+#[test]
+fn what_stands_beside_a_refusal_is_compared() {
+    // The ledger that was lent stays.
     wrong_read("first 1, second 1; [", |image, ledger| {
         let mut read = ledger.to_vec();
         let answer = read_image(image, &mut read);
@@ -166,6 +170,18 @@ fn what_stays_is_compared() {
         }
         answer
     });
+    // The ledger that is not sound.
+    wrong_read("first 1, second 1; [", |image, ledger| {
+        let answer = read_image(image, ledger);
+        if answer == UNSOUND {
+            ledger[0] = 1;
+        }
+        answer
+    });
+}
+
+#[test]
+fn numbers_that_stay_are_compared() {
     wrong_read("first 3, second 3; [", |image, ledger| {
         let answer = read_image(image, ledger);
         if let (SHORT, Some(number)) = (answer, ledger.first_mut()) {
@@ -214,17 +230,18 @@ fn entries_that_vanish_or_are_too_many_are_found() {
     // An entry that is all zero is taken for a free place.
     wrong_read("first 0, second 1", |image, ledger| {
         with_fields(image, ledger, |fields| {
-            fields.retain(|(tag, value)| *tag != OBJECT || value.iter().skip(1).any(|b| *b != 0));
+            let zero = |value: &[u8]| value.len() == OBJECT_VALUE && value[1..] == [0; 20];
+            fields.retain(|(tag, value)| *tag != OBJECT || !zero(value));
         })
     });
-    // What is above the places is dropped; or is a matter of soundness.
-    wrong_read("first 0, second 2", |image, ledger| {
+    // What is above the places is dropped.
+    wrong_read("second 2", |image, ledger| {
         with_fields(image, ledger, |fields| {
             let holds = fields.iter().filter(|(tag, _)| *tag == HOLD).count();
             fields.truncate(fields.len() - holds.saturating_sub(HOLDS));
         })
     });
-    wrong_read("first 1, second 2", |image, ledger| {
+    wrong_read("second 2", |image, ledger| {
         with_fields(image, ledger, |fields| {
             let mut manifests = 0;
             fields.retain(|(tag, _)| {
@@ -233,7 +250,7 @@ fn entries_that_vanish_or_are_too_many_are_found() {
             });
         })
     });
-    wrong_read("first 1, second 2", |image, ledger| {
+    wrong_read("second 2", |image, ledger| {
         with_fields(image, ledger, |fields| {
             let manifests = fields.iter_mut().filter(|(tag, _)| *tag == MANIFEST);
             manifests.for_each(|(_, value)| value.truncate(MANIFEST_VALUE + NAME * NAMES));
@@ -268,7 +285,11 @@ fn other_forms_are_found() {
             }
         })
     });
-    // Bytes behind the image, or behind the outer length.
+}
+
+#[test]
+fn another_outer_field_is_found() {
+    // Bytes behind the image.
     wrong_read("second 2", |image, ledger| match *image {
         [0x60, high, low, ..] => {
             let end = 3 + usize::from(u16::from_be_bytes([high, low]));

@@ -32,7 +32,7 @@ pub fn change(random: &mut Random, sort: Sort, fields: &mut Fields) -> Option<()
         Sort::OtherEdition => fields[0].1[0] = random.pick(&[0, 2, 3, 128, 255]),
         Sort::OtherFlag => other_flag(random, fields)?,
         Sort::PlacesNotRising => fall(random, fields)?,
-        Sort::OneTooMany => fill(random, fields, 1)?,
+        Sort::TooMany => overfill(random, fields)?,
         Sort::FormBeforeSoundness => both(random, fields)?,
         Sort::AsManyAsPlaces => fill(random, fields, 0)?,
         Sort::PlacesSpread => spread(random, fields)?,
@@ -167,7 +167,7 @@ fn fall(random: &mut Random, fields: &mut Fields) -> Option<()> {
 /// As many manifests, holds or names as there are places, and so many more.
 fn fill(random: &mut Random, fields: &mut Fields, more: usize) -> Option<()> {
     match random.below(3) {
-        0 => fill_manifests(random, fields, MANIFESTS + more),
+        0 => fill_manifests(random, fields, MANIFESTS + more)?,
         1 => fill_holds(fields, HOLDS + more)?,
         _ => {
             let manifest = of(random, fields, MANIFEST)?;
@@ -180,30 +180,40 @@ fn fill(random: &mut Random, fields: &mut Fields, more: usize) -> Option<()> {
     Some(())
 }
 
-/// Copies of the last one; their numbers at times rise.
-fn fill_manifests(random: &mut Random, fields: &mut Fields, wanted: usize) {
+/// Copies of the last one without its list; their numbers at times rise.
+fn fill_manifests(random: &mut Random, fields: &mut Fields, wanted: usize) -> Option<()> {
     let rises = random.once_in(2);
-    while all_of(fields, MANIFEST).len() < wanted {
-        let last = fields.iter().rposition(|(tag, _)| *tag == MANIFEST).expect("one is kept");
-        let mut value = fields[last].1.clone();
-        add_one(&mut value[..NAME], rises);
-        fields.insert(last + 1, (MANIFEST, value));
-    }
+    let manifests = all_of(fields, MANIFEST);
+    let last = *manifests.last()?;
+    let mut value = fields[last].1[..MANIFEST_VALUE].to_vec();
+    let more: Fields = (manifests.len()..wanted)
+        .map(|_| {
+            add_one(&mut value[..NAME], rises);
+            (MANIFEST, value.clone())
+        })
+        .collect();
+    fields.splice(last + 1..last + 1, more);
+    Some(())
 }
 
 /// Holds of the current manifest without an end, so that a ledger stays sound
 /// where they have places.
 fn fill_holds(fields: &mut Fields, wanted: usize) -> Option<()> {
     let current = fields[*all_of(fields, MANIFEST).last()?].1[..NAME].to_vec();
-    let mut number = match all_of(fields, HOLD).last() {
-        Some(last) => fields[*last].1[..NAME].to_vec(),
-        None => vec![0; NAME],
-    };
-    while all_of(fields, HOLD).len() < wanted {
+    let holds = all_of(fields, HOLD);
+    let mut number = holds.last().map_or(vec![0; NAME], |last| fields[*last].1[..NAME].to_vec());
+    for _ in holds.len()..wanted {
         add_one(&mut number, true);
         fields.push((HOLD, [&number[..], &current, &[0; NAME]].concat()));
     }
     Some(())
+}
+
+/// One more than there are places, now and then as many more as a field can
+/// hold.
+fn overfill(random: &mut Random, fields: &mut Fields) -> Option<()> {
+    let more = if random.once_in(40) { 1 + random.index(1_900) } else { 1 };
+    fill(random, fields, more)
 }
 
 /// The next number, where that is wanted.

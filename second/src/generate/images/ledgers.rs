@@ -32,25 +32,28 @@ impl Source {
         let wanted = if random.once_in(4) { Damage::None } else { random.pick(&DAMAGES) };
         loop {
             let mut ledger = self.ledger(random);
-            let done = match wanted {
-                Damage::None | Damage::Any => Some(()),
-                Damage::Wide => widen(random, &mut ledger),
-                Damage::Unused => mark_unused(random, &mut ledger),
-                Damage::Bit => {
-                    ledger.occupancy[random.index(WORDS)] ^= 1 << random.index(WORD);
-                    Some(())
-                }
-                Damage::Count => Some(miscount(random, &mut ledger)),
-            };
-            if done.is_some() {
-                let mut numbers = ledger_numbers(&ledger);
-                if wanted == Damage::Any {
-                    damage(random, &mut numbers);
-                }
-                return (wanted, numbers);
+            if change(random, wanted, &mut ledger).is_none() {
+                continue;
             }
+            let mut numbers = ledger_numbers(&ledger);
+            if wanted == Damage::Any {
+                damage(random, &mut numbers);
+            }
+            return (wanted, numbers);
         }
     }
+}
+
+/// `None` where the ledger has too little to be damaged so.
+fn change(random: &mut Random, wanted: Damage, ledger: &mut Raw) -> Option<()> {
+    match wanted {
+        Damage::None | Damage::Any => {}
+        Damage::Wide => widen(random, ledger)?,
+        Damage::Unused => mark_unused(random, ledger)?,
+        Damage::Bit => ledger.occupancy[random.index(WORDS)] ^= 1 << random.index(WORD),
+        Damage::Count => miscount(random, ledger),
+    }
+    Some(())
 }
 
 /// Also numbers that would be right if they were cut to their width.
