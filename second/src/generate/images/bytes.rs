@@ -12,6 +12,8 @@ pub fn of_sort(random: &mut Random, sort: Sort, image: &[u8]) -> Vec<u8> {
         Sort::ByteChanged => change(random, &mut bytes),
         Sort::Cut => bytes.truncate(random.index(image.len())),
         Sort::CutMended => return cut_mended(random, bytes),
+        // At times by as much as no length can tell.
+        Sort::Lengthened if random.once_in(100) => bytes.resize(image.len() + 0x1_0000, 0),
         Sort::Lengthened => bytes.extend(more(random)),
         Sort::LengthenedMended => {
             bytes.extend(more(random));
