@@ -15,6 +15,8 @@ const SALE: &str = "cc -O2 -Wall -Wextra -Werror -Iinclude examples/sale.c -Ltar
                     -lexports -ldesk_exports";
 const BUCKET: &str = "cc -O2 -Wall -Wextra -Werror -Iinclude examples/bucket.c -Ltarget/staticlib \
                       -lexports -llisting_exports";
+const IMAGE: &str = "cc -O2 -Wall -Wextra -Werror -Iinclude examples/image.c -Ltarget/staticlib \
+                     -lexports -limage_exports";
 const RUST: &str = "rustc --edition 2021 -O examples/depot_week.rs -L target/staticlib \
                     -l static=exports";
 
@@ -85,13 +87,24 @@ fn both_examples_print_the_stored_week() {
     }
 }
 
-#[test]
-fn the_sale_prints_what_is_stored_and_the_format_page_shows() {
-    let stored = fs::read_to_string(root().join("examples/sale.out")).expect("it is stored");
-    assert_eq!(printed_by(&mut Command::new(compiled(SALE, "sale"))), stored);
+/// The example prints what is stored, and the page of formats shows it.
+fn prints_what_the_format_page_shows(command: &str, name: &str) {
+    let stored = root().join("examples").join(name).with_extension("out");
+    let stored = fs::read_to_string(stored).expect("it is stored");
+    assert_eq!(printed_by(&mut Command::new(compiled(command, name))), stored);
     let page = fs::read_to_string(root().join("docs/FORMAT.md")).expect("it is there");
     let shown: String = stored.lines().map(|line| format!("    {line}\n")).collect();
-    assert!(page.contains(&shown), "docs/FORMAT.md shows another sale");
+    assert!(page.contains(&shown), "docs/FORMAT.md shows another {name}");
+}
+
+#[test]
+fn the_sale_prints_what_is_stored_and_the_format_page_shows() {
+    prints_what_the_format_page_shows(SALE, "sale");
+}
+
+#[test]
+fn the_image_prints_what_is_stored_and_the_format_page_shows() {
+    prints_what_the_format_page_shows(IMAGE, "image");
 }
 
 #[test]
