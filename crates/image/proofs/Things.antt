@@ -35,14 +35,6 @@ module _ (p : ℕ) (bs : List ℕ) where
   unfolding spotAt
   spot-is e g = rw (e, g)
 
--- the places behind the numbers say nothing
-pub object-padded : (p n : ℕ) (v : List ℕ) → isObjectAt p (pad n 0 v) ≡ isObjectAt p v
-unfolding isObjectAt
-object-padded p n v = rw (getD-pad n 0 v 0, getD-pad n 0 v 2, getD-pad n 0 v 5)
-
-pub from-padded : (n : ℕ) (v : List ℕ) → objectFrom (pad n 0 v) ≡ objectFrom v
-from-padded n v = rw (getD-pad n 0 v 1, getD-pad n 0 v 2, getD-pad n 0 v 3, getD-pad n 0 v 4, getD-pad n 0 v 5)
-
 module _ (p : ℕ) (o : Object) where
   pub place-free : o .number ≡ 0 → placeBytes p o ≡ []
   unfolding placeBytes
