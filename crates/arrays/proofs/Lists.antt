@@ -63,9 +63,9 @@ module _ {A : Type 0} where
   take-pad n z xs = take-append_seam xs _
 
   -- what is read of it is what is read of the list, where past its end z is read
-  pub getD-pad : (n : ℕ) (z : A) (xs : List A) (i : ℕ) → get_or (pad n z xs) i z ≡ get_or xs i z
+  pub get_d_pad : (n : ℕ) (z : A) (xs : List A) (i : ℕ) → get_or (pad n z xs) i z ≡ get_or xs i z
   unfolding pad
-  getD-pad n z xs i = behind (n - length xs) xs i
+  get_d_pad n z xs i = behind (n - length xs) xs i
     where
       behind : (k : ℕ) (xs : List A) (i : ℕ) → get_or (xs ++ replicate k z) i z ≡ get_or xs i z
       behind zero [] i = refl
@@ -89,20 +89,20 @@ module _ {A : Type 0} (k : ℕ) (z : A) (p : A → Bool) (l : List A) where
   packed_none = record { count = refl; array = sym (pad-none k z) }
 
   module _ {i n : ℕ} {a : List A} (done : Packed i n a) where
-    pub packed-few : n ≤ i
-    packed-few = omega (arith, done.count, length-keep p (take i l), length-take i l)
+    pub packed_few : n ≤ i
+    packed_few = omega (arith, done.count, length-keep p (take i l), length-take i l)
 
-    pub packed-kept : (d : A) → i < length l → i < k → p (get_or l i d) ≡ true → Packed (i + 1) (n + 1) (set a n (get_or l i d))
-    packed-kept d h room t = record {
+    pub packed_kept : (d : A) → i < length l → i < k → p (get_or l i d) ≡ true → Packed (i + 1) (n + 1) (set a n (get_or l i d))
+    packed_kept d h room t = record {
       count = rw (keep-kept p l i d h t) (simp length-append (omega (arith, done.count)));
       array = ap (λ (b : List A). set b n (get_or l i d)) done.array
           ∙ ap (λ (m : ℕ). set (pad k z (keep p (take i l))) m (get_or l i d)) done.count
-          ∙ pad-set k z (keep p (take i l)) (get_or l i d) (omega (arith, packed-few, done.count))
+          ∙ pad-set k z (keep p (take i l)) (get_or l i d) (omega (arith, packed_few, done.count))
           ∙ ap (pad k z) (sym (keep-kept p l i d h t));
     }
 
-    pub packed-left : (d : A) → i < length l → p (get_or l i d) ≡ false → Packed (i + 1) n a
-    packed-left d h t = record {
+    pub packed_left : (d : A) → i < length l → p (get_or l i d) ≡ false → Packed (i + 1) n a
+    packed_left d h t = record {
       count = done.count ∙ ap length (sym (keep_left p l i d h t));
       array = done.array ∙ ap (pad k z) (sym (keep_left p l i d h t));
     }
@@ -115,9 +115,9 @@ module _ {A : Type 0} (p : A → Bool) where
   any_append (x ∷ xs) ys = ap (λ (b : Bool). p x || b) (any_append xs ys) ∙ sym (or_assoc (p x) (any p xs) (any p ys))
 
   -- one more passed over
-  pub any-passed : (l : List A) (i : ℕ) (d : A) → i < length l → any p (take i l) ≡ false → p (get_or l i d) ≡ false → any p (take (i + 1) l) ≡ false
+  pub any_passed : (l : List A) (i : ℕ) (d : A) → i < length l → any p (take i l) ≡ false → p (get_or l i d) ≡ false → any p (take (i + 1) l) ≡ false
   unfolding any
-  any-passed l i d h none here = rw (add-one, take-suc l i d h, any_append, none, here)
+  any_passed l i d h none here = rw (add-one, take-suc l i d h, any_append, none, here)
 
   -- found at i
   pub any_found : (l : List A) (i : ℕ) (d : A) → i < length l → p (get_or l i d) ≡ true → any p l ≡ true
@@ -160,11 +160,11 @@ module _ {A : Type 0} (p : A → Bool) where
       go true e = ap (λ (b : Bool). p x || b) e
       go false e = e
 
-  pub and-any : (b : Bool) (xs : List A) → (b && any p xs) ≡ any (λ x. b && p x) xs
+  pub and_any : (b : Bool) (xs : List A) → (b && any p xs) ≡ any (λ x. b && p x) xs
   unfolding any
-  and-any true xs = refl
-  and-any false [] = refl
-  and-any false (x ∷ xs) = and-any false xs
+  and_any true xs = refl
+  and_any false [] = refl
+  and_any false (x ∷ xs) = and_any false xs
 
   pub not-all : (xs : List A) → not (all p xs) ≡ any (λ x. not (p x)) xs
   unfolding any all

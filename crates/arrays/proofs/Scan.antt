@@ -8,7 +8,7 @@ use native.Mathlib.Numerals.{add-one}
 use lib.Dec.{ltb, eqb}
 use lib.ListN.{length, get_or}
 use lib.Seq.{slice, slice-cons, slice_empty}
-use Rattle.rules.specs.Lists.{any, all, lookup, risingAbove}
+use Rattle.rules.specs.Lists.{any, all, lookup, rising_above}
 
 module _ {A B : Type 0} (l : List A) (n : ℕ) {whole : B} (f : List A → B) where
   -- the answer is that for what is left, and the next element is the first of it
@@ -17,23 +17,23 @@ module _ {A B : Type 0} (l : List A) (n : ℕ) {whole : B} (f : List A → B) wh
     at_next = rw (add-one, ← slice-cons i n l d h k) left
 
     -- one turn: the element goes, and what is asked of the rest may be another thing
-    pub scan-next : (g : List A → B) → f (get_or l i d ∷ slice (i + 1) n l) ≡ g (slice (i + 1) n l) → g (slice (i + 1) n l) ≡ whole
-    scan-next g e = sym e ∙ at_next
+    pub scan_next : (g : List A → B) → f (get_or l i d ∷ slice (i + 1) n l) ≡ g (slice (i + 1) n l) → g (slice (i + 1) n l) ≡ whole
+    scan_next g e = sym e ∙ at_next
 
     -- the element decides
-    pub scan-stop : (b : B) → f (get_or l i d ∷ slice (i + 1) n l) ≡ b → b ≡ whole
-    scan-stop b e = sym e ∙ at_next
+    pub scan_stop : (b : B) → f (get_or l i d ∷ slice (i + 1) n l) ≡ b → b ≡ whole
+    scan_stop b e = sym e ∙ at_next
 
   -- nothing is left
-  pub scan-end : f (slice n n l) ≡ whole → f [] ≡ whole
-  scan-end left = ap f (sym (slice_empty n l)) ∙ left
+  pub scan_end : f (slice n n l) ≡ whole → f [] ≡ whole
+  scan_end left = ap f (sym (slice_empty n l)) ∙ left
 
 -- What a turn does to each question
 
 module _ {A : Type 0} (p : A → Bool) (x : A) (xs : List A) where
-  pub any-hit : p x ≡ true → any p (x ∷ xs) ≡ true
+  pub any_hit : p x ≡ true → any p (x ∷ xs) ≡ true
   unfolding any
-  any-hit e = rw e
+  any_hit e = rw e
 
   pub any-miss : p x ≡ false → any p (x ∷ xs) ≡ any p xs
   unfolding any
@@ -43,25 +43,25 @@ module _ {A : Type 0} (p : A → Bool) (x : A) (xs : List A) where
   unfolding all
   all-miss e = rw e
 
-  pub all-hit : p x ≡ true → all p (x ∷ xs) ≡ all p xs
+  pub all_hit : p x ≡ true → all p (x ∷ xs) ≡ all p xs
   unfolding all
-  all-hit e = rw e
+  all_hit e = rw e
 
 module _ {A B : Type 0} (key : A → ℕ) (value : A → B) (default : B) (n : ℕ) (x : A) (xs : List A) where
-  pub lookup-hit : eqb n (key x) ≡ true → lookup key value default n (x ∷ xs) ≡ value x
+  pub lookup_hit : eqb n (key x) ≡ true → lookup key value default n (x ∷ xs) ≡ value x
   unfolding lookup
-  lookup-hit e = rw e
+  lookup_hit e = rw e
 
   pub lookup-miss : eqb n (key x) ≡ false → lookup key value default n (x ∷ xs) ≡ lookup key value default n xs
   unfolding lookup
   lookup-miss e = rw e
 
-pub rising-hit : (floor n : ℕ) (ns : List ℕ) → ltb floor n ≡ true → risingAbove floor (n ∷ ns) ≡ risingAbove n ns
-unfolding risingAbove
-rising-hit floor n ns e = rw e
+pub rising_hit : (floor n : ℕ) (ns : List ℕ) → ltb floor n ≡ true → rising_above floor (n ∷ ns) ≡ rising_above n ns
+unfolding rising_above
+rising_hit floor n ns e = rw e
 
-pub rising-miss : (floor n : ℕ) (ns : List ℕ) → ltb floor n ≡ false → risingAbove floor (n ∷ ns) ≡ false
-unfolding risingAbove
+pub rising-miss : (floor n : ℕ) (ns : List ℕ) → ltb floor n ≡ false → rising_above floor (n ∷ ns) ≡ false
+unfolding rising_above
 rising-miss floor n ns e = rw e
 
 -- A choice of several cases: the first test that holds decides

@@ -14,6 +14,6 @@ module _ {A : Type 0} where
 
 module _ {A : Type 0} (lt : A → A → Bool) where
   -- an element is put into a rising list at its place: of two the smaller stands here, and the other goes on
-  unfoldable pub insertedBy : A → List A → List A
-  insertedBy x [] = x ∷ []
-  insertedBy x (y ∷ ys) = cond (lt x y) x y ∷ insertedBy (cond (lt x y) y x) ys
+  unfoldable pub inserted_by : A → List A → List A
+  inserted_by x [] = x ∷ []
+  inserted_by x (y ∷ ys) = cond (lt x y) x y ∷ inserted_by (cond (lt x y) y x) ys

@@ -3,8 +3,8 @@
 use Rattle.std.specs.Prelude.{◌≡◌, true, List, ◌++◌, ℕ}
 use Rattle.rules.specs.declared.Answer.{Answer}
 use Rattle.rules.specs.Step.{code}
-use Rattle.verdicts.specs.Verdicts.{verdictFormed, encodeVerdict}
+use Rattle.verdicts.specs.Verdicts.{verdict_formed, encode_verdict}
 
 -- where some bytes start with the record of a verdict, the number is its code
 abbrev pub ShowsCode : List ℕ → ℕ → Type 0
-ShowsCode bytes n = (a : Answer) (l rest : List ℕ) → verdictFormed a l ≡ true → bytes ≡ encodeVerdict a l ++ rest → n ≡ code a
+ShowsCode bytes n = (a : Answer) (l rest : List ℕ) → verdict_formed a l ≡ true → bytes ≡ encode_verdict a l ++ rest → n ≡ code a

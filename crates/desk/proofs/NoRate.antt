@@ -13,35 +13,35 @@ use Rattle.rules.specs.declared.Verdict.{Verdict}
 use Rattle.rules.specs.Lists.{◌∈◌, none, maximum}
 use Rattle.rules.specs.Limits.{limits}
 use Rattle.rules.specs.State.{fresh}
-use Rattle.rules.specs.Table.{nonzero, wellFormed}
+use Rattle.rules.specs.Table.{nonzero, well_formed}
 use Rattle.rules.specs.Request.{Ask}
 use Rattle.rules.specs.Step.{Reply, code}
-use Rattle.rules.specs.Demand3.{historyOf}
-use Rattle.rules.specs.Rates.{held_at, ratesAt, lookAt}
+use Rattle.rules.specs.Demand3.{history_of}
+use Rattle.rules.specs.Rates.{held_at, rates_at, look_at}
 use Rattle.rules.proofs.Lists.{and_left, and_right, and_both, true-false}
-use Rattle.rules.proofs.Rates.{maximum-in, looks}
+use Rattle.rules.proofs.Rates.{maximum_in, looks}
 use Rattle.ledger.specs.declared.Ledger.{Ledger}
 use Rattle.ledger.specs.declared.StepAnswer.{StepAnswer}
 use Rattle.ledger.specs.Ledger.{lay}
 use Rattle.ledger.specs.Step.{judged}
-use Rattle.ledger.specs.Demand3.{ledgerAfter}
+use Rattle.ledger.specs.Demand3.{ledger_after}
 use Rattle.ledger.specs.Look.{Outcome, finds, refuses}
-use Rattle.ledger.proofs.Looking.{look-outcome}
+use Rattle.ledger.proofs.Looking.{look_outcome}
 use Rattle.ledger.proofs.Demand3.{delivered}
 use Rattle.records.proofs.RoundTripRecords.{picked}
 use Rattle.sheets.specs.declared.Sheet.{Sheet}
 use Rattle.sheets.specs.declared.SheetRead.{SheetRead}
 use Rattle.sheets.specs.declared.SheetRead.TheVariants.{Read, Malformed}
-use Rattle.sheets.specs.Sheets.{decodeSheet}
+use Rattle.sheets.specs.Sheets.{decode_sheet}
 use Rattle.sheets.proofs.Reading.{read-formed}
 use Rattle.desk.specs.declared.Sale.{Sale}
 use Rattle.desk.specs.declared.Sale.TheVariants.{Charged, Refused}
 use Rattle.desk.specs.declared.SaleAnswer.{SaleAnswer}
-use Rattle.desk.specs.Charge.{largestFare, chargeOf, Smallest}
-use Rattle.desk.specs.Look.{asked, objectOf, look_of}
-use Rattle.desk.specs.Sale.{refusedSale, isInForce, saleOf}
+use Rattle.desk.specs.Charge.{largest_fare, charge_of, Smallest}
+use Rattle.desk.specs.Look.{asked, object_of, look_of}
+use Rattle.desk.specs.Sale.{refused_sale, is_in_force, sale_of}
 use Rattle.desk.specs.NoRate.{WentBy, SaleExact, LookedExact, NoRateNoCharge}
-use Rattle.desk.proofs.Rounding.{charge-smallest, rate-bounds}
+use Rattle.desk.proofs.Rounding.{charge-smallest, rate_bounds}
 
 -- ---- sales are told apart
 
@@ -49,30 +49,30 @@ abbrev amount : Sale → ℕ
 amount (Charged n) = n
 amount (Refused n) = n
 
-abbrev isCharged : Sale → Bool
-isCharged (Charged n) = true
-isCharged (Refused n) = false
+abbrev is_charged : Sale → Bool
+is_charged (Charged n) = true
+is_charged (Refused n) = false
 
 module _ (l : Ledger) (time : ℕ) (sheet : List ℕ) (currency hold fare : ℕ) where
   abbrev sold : SaleAnswer
-  sold = saleOf l time sheet currency hold fare
+  sold = sale_of l time sheet currency hold fare
 
   abbrev looked : StepAnswer
   looked = judged l (asked time currency hold)
 
-  turned : (m : ℕ) → 0 < m → sold ≡ refusedSale m l → SaleExact l time sheet currency hold fare
+  turned : (m : ℕ) → 0 < m → sold ≡ refused_sale m l → SaleExact l time sheet currency hold fare
   turned m some e =
       let said = ap (λ (a : SaleAnswer). a.sale) e in
       record {
-        charged = λ n q. absurd (true≢false (ap isCharged (sym q ∙ said)));
+        charged = λ n q. absurd (true≢false (ap is_charged (sym q ∙ said)));
         refused = λ n q. (subst (λ (k : ℕ). 0 < k) (ap amount (sym said ∙ q)) some, ap (λ (a : SaleAnswer). a.ledger) e);
       }
 
-  went : (s : Sheet) → decodeSheet sheet ≡ Read s → fare ≤ largestFare → s.currency ≡ currency → looked.verdict.answer ≡ Found s.object
-      → sold ≡ record { sale = Charged (chargeOf fare s.numerator s.denominator); ledger = looked.ledger } → SaleExact l time sheet currency hold fare
+  went : (s : Sheet) → decode_sheet sheet ≡ Read s → fare ≤ largest_fare → s.currency ≡ currency → looked.verdict.answer ≡ Found s.object
+      → sold ≡ record { sale = Charged (charge_of fare s.numerator s.denominator); ledger = looked.ledger } → SaleExact l time sheet currency hold fare
   went s read few same found e =
       let said = ap (λ (a : SaleAnswer). a.sale) e in
-      let smallest = charge-smallest.smallest fare s.numerator s.denominator (rate-bounds s (read-formed sheet s read)).1.0 in
+      let smallest = charge-smallest.smallest fare s.numerator s.denominator (rate_bounds s (read-formed sheet s read)).1.0 in
       record {
         charged = λ n q. record {
           rate = s;
@@ -83,49 +83,49 @@ module _ (l : Ledger) (time : ℕ) (sheet : List ℕ) (currency hold fare : ℕ)
           charge = subst (λ (k : ℕ). Smallest fare s.numerator s.denominator k) (ap amount (sym said ∙ q)) smallest;
           next = ap (λ (a : SaleAnswer). a.ledger) e;
         };
-        refused = λ n q. absurd (true≢false (ap isCharged (sym said ∙ q)));
+        refused = λ n q. absurd (true≢false (ap is_charged (sym said ∙ q)));
       }
 
   -- ---- the sale by its cases
 
-  module _ (s : Sheet) (read : decodeSheet sheet ≡ Read s) (few : ltb largestFare fare ≡ false) where
+  module _ (s : Sheet) (read : decode_sheet sheet ≡ Read s) (few : ltb largest_fare fare ≡ false) where
     found-sale : (n : ℕ) → looked.verdict.answer ≡ Found n
-        → sold ≡ cond (isInForce s n currency) (record { sale = Charged (chargeOf fare s.numerator s.denominator); ledger = looked.ledger }) (refusedSale 30 l)
-    unfolding saleOf look_of
+        → sold ≡ cond (is_in_force s n currency) (record { sale = Charged (charge_of fare s.numerator s.denominator); ledger = looked.ledger }) (refused_sale 30 l)
+    unfolding sale_of look_of
     found-sale n e = rw (read, few, e)
 
-    refused-sale : (n : ℕ) → 0 < n → looked.verdict.answer ≡ REFUSED n → sold ≡ refusedSale n l
-    unfolding saleOf look_of
-    refused-sale n some e = rw (read, few, e, ne_eqb n 0 (λ z. omega (arith, z)))
+    refused_sale_lem : (n : ℕ) → 0 < n → looked.verdict.answer ≡ REFUSED n → sold ≡ refused_sale n l
+    unfolding sale_of look_of
+    refused_sale_lem n some e = rw (read, few, e, ne_eqb n 0 (λ z. omega (arith, z)))
 
     by-look : Outcome l looked → SaleExact l time sheet currency hold fare
-    by-look (refuses n some e) = turned n some (refused-sale n some (ap (λ (a : StepAnswer). a.verdict.answer) e))
-    by-look (finds n e) = step (isInForce s n currency) refl
+    by-look (refuses n some e) = turned n some (refused_sale_lem n some (ap (λ (a : StepAnswer). a.verdict.answer) e))
+    by-look (finds n e) = step (is_in_force s n currency) refl
       where
         answered : looked.verdict.answer ≡ Found n
         answered = ap (λ (v : Verdict). v.answer) e
 
-        step : (b : Bool) → isInForce s n currency ≡ b → SaleExact l time sheet currency hold fare
+        step : (b : Bool) → is_in_force s n currency ≡ b → SaleExact l time sheet currency hold fare
         step true q =
             let object = eqb-true s.object n (and_left (eqb s.object n) (eqb s.currency currency) q) in
             let same = eqb-true s.currency currency (and_right (eqb s.object n) (eqb s.currency currency) q) in
-            went s read (ltb-false largestFare fare few) same (answered ∙ ap Found (sym object)) (found-sale n answered ∙ rw q)
+            went s read (ltb-false largest_fare fare few) same (answered ∙ ap Found (sym object)) (found-sale n answered ∙ rw q)
         step false q = turned 30 (lit< tt) (found-sale n answered ∙ rw q)
 
   pub sale-exact : SaleExact l time sheet currency hold fare
-  unfolding saleOf
-  sale-exact = step (decodeSheet sheet) refl (ltb largestFare fare) refl
+  unfolding sale_of
+  sale-exact = step (decode_sheet sheet) refl (ltb largest_fare fare) refl
     where
-      step : (r : SheetRead) → decodeSheet sheet ≡ r → (b : Bool) → ltb largestFare fare ≡ b → SaleExact l time sheet currency hold fare
+      step : (r : SheetRead) → decode_sheet sheet ≡ r → (b : Bool) → ltb largest_fare fare ≡ b → SaleExact l time sheet currency hold fare
       step Malformed read b few = turned 2 (lit< tt) (rw read)
       step (Read s) read true few = turned 2 (lit< tt) (rw (read, few))
-      step (Read s) read false few = by-look s read few (look-outcome l time currency hold)
+      step (Read s) read false few = by-look s read few (look_outcome l time currency hold)
 
 -- ---- by the history
 
 module _ (asks : List Ask) (time currency hold : ℕ) where
   abbrev rates : List ℕ
-  rates = ratesAt time (historyOf asks) currency hold
+  rates = rates_at time (history_of asks) currency hold
 
   -- what a LOOK that found an object says of the history
   abbrev Rated : Answer → Type 0
@@ -133,46 +133,46 @@ module _ (asks : List Ask) (time currency hold : ℕ) where
   Rated Done = Unit {0}
   Rated (Epoch e) = Unit {0}
   Rated (Listed m) = Unit {0}
-  Rated (Found n) = (n ≡ maximum rates) × (none rates ≡ false) × ((nonzero hold && not (held_at time (historyOf asks) hold)) ≡ false)
+  Rated (Found n) = (n ≡ maximum rates) × (none rates ≡ false) × ((nonzero hold && not (held_at time (history_of asks) hold)) ≡ false)
   Rated Collected = Unit {0}
 
-  rated : Rated (lookAt limits time (historyOf asks) currency hold)
-  unfolding lookAt
+  rated : Rated (look_at limits time (history_of asks) currency hold)
+  unfolding look_at
   rated =
-      let unheld = nonzero hold && not (held_at time (historyOf asks) hold) in
+      let unheld = nonzero hold && not (held_at time (history_of asks) hold) in
       let found = cond (none rates) (REFUSED 16) (Found (maximum rates)) in
-      let on-time = cond unheld (REFUSED 15) found in
-      let early = ltb time (historyOf asks).time in
-      picked Rated (not (wellFormed limits time (LOOK currency hold) [])) (REFUSED 2) (cond early (REFUSED 3) on-time) (λ e. tt) (λ e.
-      picked Rated early (REFUSED 3) on-time (λ e. tt) (λ e.
+      let on_time_lem = cond unheld (REFUSED 15) found in
+      let early = ltb time (history_of asks).time in
+      picked Rated (not (well_formed limits time (LOOK currency hold) [])) (REFUSED 2) (cond early (REFUSED 3) on_time_lem) (λ e. tt) (λ e.
+      picked Rated early (REFUSED 3) on_time_lem (λ e. tt) (λ e.
       picked Rated unheld (REFUSED 15) found (λ e. tt) (λ live.
       picked Rated (none rates) (REFUSED 16) (Found (maximum rates)) (λ e. tt) (λ some. (refl, some, live)))))
 
-  answered : (judged (ledgerAfter (lay fresh) asks) (asked time currency hold)).verdict.answer ≡ lookAt limits time (historyOf asks) currency hold
+  answered : (judged (ledger_after (lay fresh) asks) (asked time currency hold)).verdict.answer ≡ look_at limits time (history_of asks) currency hold
   answered = ap (λ (v : Verdict). v.answer) ((delivered asks).answers (asked time currency hold)) ∙ ap (λ (r : Reply). r.answer) (looks asks time currency hold)
 
   pub looked-exact : LookedExact asks time currency hold
   unfolding look_of
-  looked-exact = record { code = ap code answered; object = ap objectOf answered }
+  looked-exact = record { code = ap code answered; object = ap object_of answered }
 
   module _ (sheet : List ℕ) (fare : ℕ) where
-    says : (n : ℕ) (w : WentBy (ledgerAfter (lay fresh) asks) time sheet currency hold fare n) → Rated (Found w.rate.object)
+    says : (n : ℕ) (w : WentBy (ledger_after (lay fresh) asks) time sheet currency hold fare n) → Rated (Found w.rate.object)
     says n w = subst Rated (sym answered ∙ w.found) rated
 
-    charged : (n : ℕ) → (saleOf (ledgerAfter (lay fresh) asks) time sheet currency hold fare).sale ≡ Charged n → WentBy (ledgerAfter (lay fresh) asks) time sheet currency hold fare n
-    charged n q = (sale-exact (ledgerAfter (lay fresh) asks) time sheet currency hold fare).charged n q
+    charged : (n : ℕ) → (sale_of (ledger_after (lay fresh) asks) time sheet currency hold fare).sale ≡ Charged n → WentBy (ledger_after (lay fresh) asks) time sheet currency hold fare n
+    charged n q = (sale-exact (ledger_after (lay fresh) asks) time sheet currency hold fare).charged n q
 
-    sells : (s : Sheet) → decodeSheet sheet ≡ Read s → fare ≤ largestFare → s.currency ≡ currency → lookAt limits time (historyOf asks) currency hold ≡ Found s.object
-        → (saleOf (ledgerAfter (lay fresh) asks) time sheet currency hold fare).sale ≡ Charged (chargeOf fare s.numerator s.denominator)
+    sells : (s : Sheet) → decode_sheet sheet ≡ Read s → fare ≤ largest_fare → s.currency ≡ currency → look_at limits time (history_of asks) currency hold ≡ Found s.object
+        → (sale_of (ledger_after (lay fresh) asks) time sheet currency hold fare).sale ≡ Charged (charge_of fare s.numerator s.denominator)
     sells s read few same found =
-        let l = ledgerAfter (lay fresh) asks in
-        let same-sheet : isInForce s s.object currency ≡ true = and_both _ _ (eq-eqb s.object s.object refl) (eq-eqb s.currency currency same) in
-        ap (λ (a : SaleAnswer). a.sale) (found-sale l time sheet currency hold fare s read (le-ltb largestFare fare few) s.object (answered ∙ found)) ∙ rw same-sheet
+        let l = ledger_after (lay fresh) asks in
+        let same-sheet : is_in_force s s.object currency ≡ true = and_both _ _ (eq-eqb s.object s.object refl) (eq-eqb s.currency currency same) in
+        ap (λ (a : SaleAnswer). a.sale) (found-sale l time sheet currency hold fare s read (le-ltb largest_fare fare few) s.object (answered ∙ found)) ∙ rw same-sheet
 
-    pub no-rate : NoRateNoCharge asks time sheet currency hold fare
-    no-rate = record {
+    pub no_rate_lem : NoRateNoCharge asks time sheet currency hold fare
+    no_rate_lem = record {
       sells = sells;
-      inForce = λ n w. let r = says n w in (subst (λ (k : ℕ). k ∈ rates) (sym r.0) (maximum-in rates r.1), r.0);
-      noRate = λ e n q. true-false (none rates) e (says n (charged n q)).1;
-      noHold = λ some e n q. true≢false (sym (rw (ne_eqb hold 0 (λ z. omega (arith, z)), e)) ∙ (says n (charged n q)).2);
+      in_force = λ n w. let r = says n w in (subst (λ (k : ℕ). k ∈ rates) (sym r.0) (maximum_in rates r.1), r.0);
+      no_rate = λ e n q. true-false (none rates) e (says n (charged n q)).1;
+      no_hold = λ some e n q. true≢false (sym (rw (ne_eqb hold 0 (λ z. omega (arith, z)), e)) ∙ (says n (charged n q)).2);
     }

@@ -14,29 +14,29 @@ use borrow.Author.Tests.{lt-ltb, le-ltb}
 use Rattle.ledger.specs.declared.Ledger.{Ledger}
 use Rattle.desk.specs.declared.Entry.{Entry}
 use Rattle.desk.specs.declared.Filled.{Filled}
-use Rattle.desk.specs.Card.{filled, entries, after, cardOf, answer_of}
+use Rattle.desk.specs.Card.{filled, entries, after, card_of, answer_of}
 
 module _ (time hold count : ℕ) (ledger : Ledger) (xs : List Entry) where
   pub record Progress (i : ℕ) (l : Ledger) (ys : List Entry) : Type 0 where
     pub within : i ≤ count
     pub as_long : length ys ≡ length xs
-    pub card-is : take i ys ++ entries time hold l (count - i) (drop i ys) ≡ entries time hold ledger count xs
-    pub ledger-is : after time hold l (count - i) (drop i ys) ≡ after time hold ledger count xs
+    pub card_is : take i ys ++ entries time hold l (count - i) (drop i ys) ≡ entries time hold ledger count xs
+    pub ledger_is : after time hold l (count - i) (drop i ys) ≡ after time hold ledger count xs
 
   pub starts : Progress 0 ledger xs
   starts =
       let none : count - 0 ≡ count = omega arith in
-      record { within = omega arith; as_long = refl; card-is = rw none; ledger-is = rw none }
+      record { within = omega arith; as_long = refl; card_is = rw none; ledger_is = rw none }
 
-  pub refuses : length xs < count → (record { code = 2; ledger = ledger } ≡ answer_of ledger time hold count xs) × (xs ≡ cardOf ledger time hold count xs)
-  unfolding answer_of cardOf
+  pub refuses : length xs < count → (record { code = 2; ledger = ledger } ≡ answer_of ledger time hold count xs) × (xs ≡ card_of ledger time hold count xs)
+  unfolding answer_of card_of
   refuses over = (rw lt-ltb, rw lt-ltb)
 
-  pub stops : count ≤ length xs → (i : ℕ) (l : Ledger) (ys : List Entry) → Progress i l ys → count ≤ i → (record { code = 0; ledger = l } ≡ answer_of ledger time hold count xs) × (ys ≡ cardOf ledger time hold count xs)
-  unfolding answer_of cardOf entries after
+  pub stops : count ≤ length xs → (i : ℕ) (l : Ledger) (ys : List Entry) → Progress i l ys → count ≤ i → (record { code = 0; ledger = l } ≡ answer_of ledger time hold count xs) × (ys ≡ card_of ledger time hold count xs)
+  unfolding answer_of card_of entries after
   stops enough i l ys p over =
       let none : count - i ≡ 0 = omega arith in
-      (rw le-ltb (ap (λ (m : Ledger). record { code = 0; ledger = m }) (rw none at p.ledger-is)), rw le-ltb (sym (take-append-drop i ys) ∙ (rw none at p.card-is)))
+      (rw le-ltb (ap (λ (m : Ledger). record { code = 0; ledger = m }) (rw none at p.ledger_is)), rw le-ltb (sym (take-append-drop i ys) ∙ (rw none at p.card_is)))
 
   module _ (i : ℕ) (l : Ledger) (ys : List Entry) (d : Entry) (p : Progress i l ys) (less : i < count) (in-card : i < length ys) (r : Filled) (is : r ≡ filled l time hold (get_or ys i d)) where
     one_less : count - i ≡ suc (count - suc i)
@@ -51,16 +51,16 @@ module _ (time hold count : ℕ) (ledger : Ledger) (xs : List Entry) where
 
     card-next : take i ys ++ (r.entry ∷ entries time hold r.ledger (count - suc i) (drop (suc i) ys)) ≡ entries time hold ledger count xs
     unfolding entries
-    card-next = rw is (rw (one_less, ahead) at p.card-is)
+    card-next = rw is (rw (one_less, ahead) at p.card_is)
 
     ledger-next : after time hold r.ledger (count - suc i) (drop (suc i) ys) ≡ after time hold ledger count xs
     unfolding after
-    ledger-next = rw is (rw (one_less, ahead) at p.ledger-is)
+    ledger-next = rw is (rw (one_less, ahead) at p.ledger_is)
 
     pub steps : Progress (i + 1) r.ledger (set ys i r.entry)
     steps = record {
       within = omega arith;
       as_long = length-set ys i r.entry ∙ p.as_long;
-      card-is = rw (add-one, beyond, take-suc-set ys i r.entry in-card, append_assoc) card-next;
-      ledger-is = rw (add-one, beyond) ledger-next;
+      card_is = rw (add-one, beyond, take-suc-set ys i r.entry in-card, append_assoc) card-next;
+      ledger_is = rw (add-one, beyond) ledger-next;
     }

@@ -7,15 +7,15 @@ use native.Mathlib.Nat.{suc-mul, mul-le-mul, lt-div-mul-add, div-lt_iff_lt-mul}
 use native.Mathlib.Omega.{arith}
 use lib.Dec.{eqb, leb}
 use borrow.Author.Tests.{leb-true, eqb-false, not-true}
-use Rattle.rules.specs.Limits.{currencyLimit}
+use Rattle.rules.specs.Limits.{currency_limit}
 use Rattle.rules.specs.Table.{nonzero}
 use Rattle.rules.proofs.Lists.{and_left, and_right, conj-true}
 use Rattle.sheets.specs.declared.Sheet.{Sheet}
-use Rattle.sheets.specs.Sheets.{largestRate, isRate, sheetFormed}
-use Rattle.desk.specs.Charge.{largestFare, chargeOf, Smallest, ChargeIsSmallest}
+use Rattle.sheets.specs.Sheets.{largest_rate, is_rate, sheet_formed}
+use Rattle.desk.specs.Charge.{largest_fare, charge_of, Smallest, ChargeIsSmallest}
 
-smallest : (fare numerator denominator : ℕ) → 0 < denominator → Smallest fare numerator denominator (chargeOf fare numerator denominator)
-unfolding chargeOf
+smallest : (fare numerator denominator : ℕ) → 0 < denominator → Smallest fare numerator denominator (charge_of fare numerator denominator)
+unfolding charge_of
 smallest fare n d some =
     let most = fare * n + (d - 1) in
     record {
@@ -24,12 +24,12 @@ smallest fare n d some =
     }
 
 pub charge-smallest : ChargeIsSmallest
-unfolding chargeOf
+unfolding charge_of
 charge-smallest = record {
   smallest = smallest;
   only = λ fare n d charge some s.
       let t = smallest fare n d some in
-      let up = s.least (chargeOf fare n d) t.enough in
+      let up = s.least (charge_of fare n d) t.enough in
       let down = t.least charge s.enough in
       omega arith;
   first = refl;
@@ -38,16 +38,16 @@ charge-smallest = record {
 
 -- ---- the bounds that a well-formed sheet has
 
-rate-bound : (n : ℕ) → isRate n ≡ true → (0 < n) × (n ≤ largestRate)
-rate-bound n h =
-    let zero = eqb-false n 0 (not-true (eqb n 0) (and_left (nonzero n) (leb n largestRate) h)) in
-    (omega (arith, zero), leb-true n largestRate (and_right (nonzero n) (leb n largestRate) h))
+rate_bound : (n : ℕ) → is_rate n ≡ true → (0 < n) × (n ≤ largest_rate)
+rate_bound n h =
+    let zero = eqb-false n 0 (not-true (eqb n 0) (and_left (nonzero n) (leb n largest_rate) h)) in
+    (omega (arith, zero), leb-true n largest_rate (and_right (nonzero n) (leb n largest_rate) h))
 
-pub rate-bounds : (s : Sheet) → sheetFormed s ≡ true → ((0 < s.numerator) × (s.numerator ≤ largestRate)) × ((0 < s.denominator) × (s.denominator ≤ largestRate))
-unfolding sheetFormed
-rate-bounds s h =
-    let t = conj-true (nonzero s.object ∷ nonzero s.currency ∷ leb s.currency currencyLimit ∷ isRate s.numerator ∷ isRate s.denominator ∷ []) h in
-    (rate-bound s.numerator t.1.1.1.0, rate-bound s.denominator t.1.1.1.1.0)
+pub rate_bounds : (s : Sheet) → sheet_formed s ≡ true → ((0 < s.numerator) × (s.numerator ≤ largest_rate)) × ((0 < s.denominator) × (s.denominator ≤ largest_rate))
+unfolding sheet_formed
+rate_bounds s h =
+    let t = conj-true (nonzero s.object ∷ nonzero s.currency ∷ leb s.currency currency_limit ∷ is_rate s.numerator ∷ is_rate s.denominator ∷ []) h in
+    (rate_bound s.numerator t.1.1.1.0, rate_bound s.denominator t.1.1.1.1.0)
 
-pub product-bound : (fare : ℕ) (s : Sheet) → fare ≤ largestFare → sheetFormed s ≡ true → fare * s.numerator ≤ 1000000000000000
-product-bound fare s few h = mul-le-mul few (rate-bounds s h).0.1
+pub product_bound : (fare : ℕ) (s : Sheet) → fare ≤ largest_fare → sheet_formed s ≡ true → fare * s.numerator ≤ 1000000000000000
+product_bound fare s few h = mul-le-mul few (rate_bounds s h).0.1

@@ -60,8 +60,8 @@ module _ {M : Type 1} {𝓤 : Ura M} {𝓛 : Logic 𝓤} where
   typed S d is = ((LL.lawful S.type S.laws 𝓛).typed d _ is).0
 
   module _ {K : Type 0} {Γ : List (Item 𝓤)} where
-    pub has-struct : K → (S : Plain) (d : S.type.D) {G : Goal 𝓤 H} → Holds S d → Step K 𝓛 (‵ ((Of S).own_val d (val S d ∷ [])) ∷ Γ) G Γ G
-    has-struct t S d is = owned t (Of S) (Is (Of S)) (LL.makes S.type S.plain 𝓛) d _ is
+    pub has_struct : K → (S : Plain) (d : S.type.D) {G : Goal 𝓤 H} → Holds S d → Step K 𝓛 (‵ ((Of S).own_val d (val S d ∷ [])) ∷ Γ) G Γ G
+    has_struct t S d is = owned t (Of S) (Is (Of S)) (LL.makes S.type S.plain 𝓛) d _ is
 
     pub has_word : K → (n : ℕ) {G : Goal 𝓤 H} → n < 2 ^ 64 → Step K 𝓛 (‵ (u64.own_val n (vint w64 n ∷ [])) ∷ Γ) G Γ G
     has_word t n fits = owned t u64 (Is u64) (uint_Makes 𝓛 w64) n _ (refl, fits)

@@ -10,11 +10,11 @@ use Rattle.desk.specs.declared.RowFilled.{RowFilled}
 use Rattle.desk.specs.Look.{look_of}
 
 -- "each look's code and object (0 if refused)": the entry's currency stays
-abbrev pub filledBy : Entry → Looked → Filled
-filledBy e a = record { entry = record { currency = e.currency; code = a.code; object = a.object }; ledger = a.ledger }
+abbrev pub filled_by : Entry → Looked → Filled
+filled_by e a = record { entry = record { currency = e.currency; code = a.code; object = a.object }; ledger = a.ledger }
 
 unfoldable pub filled : Ledger → ℕ → ℕ → Entry → Filled
-filled l time hold e = filledBy e (look_of l time e.currency hold)
+filled l time hold e = filled_by e (look_of l time e.currency hold)
 
 module _ (time hold : ℕ) where
   -- the entries after the first n looks, from the ledger l; "Entries beyond the count stay"
@@ -30,19 +30,19 @@ module _ (time hold : ℕ) where
   after l (suc n) (e ∷ es) = after (filled l time hold e).ledger n es
 
 -- "a count above the row's length gives 2 and changes nothing"
-unfoldable pub cardOf : Ledger → ℕ → ℕ → ℕ → List Entry → List Entry
-cardOf l time hold count es = cond (ltb (length es) count) es (entries time hold l count es)
+unfoldable pub card_of : Ledger → ℕ → ℕ → ℕ → List Entry → List Entry
+card_of l time hold count es = cond (ltb (length es) count) es (entries time hold l count es)
 
 unfoldable pub answer_of : Ledger → ℕ → ℕ → ℕ → List Entry → CardAnswer
 answer_of l time hold count es = cond (ltb (length es) count) (record { code = 2; ledger = l }) (record { code = 0; ledger = after time hold l count es })
 
 -- how many entries a row by value has
-abbrev pub rowLimit : ℕ
-rowLimit = 64
+abbrev pub row_limit : ℕ
+row_limit = 64
 
 -- a row by value
 abbrev pub row_by : CardAnswer → List Entry → RowFilled
 row_by a es = record { code = a.code; ledger = a.ledger; entries = es }
 
 unfoldable pub row_of : Ledger → ℕ → ℕ → ℕ → List Entry → RowFilled
-row_of l time hold count es = row_by (answer_of l time hold count es) (cardOf l time hold count es)
+row_of l time hold count es = row_by (answer_of l time hold count es) (card_of l time hold count es)

@@ -11,19 +11,19 @@ use Rattle.ledger.specs.Step.{judged}
 use Rattle.desk.specs.declared.Looked.{Looked}
 
 -- the object that an answer gives; "0 if refused"
-abbrev pub objectOf : Answer → ℕ
-objectOf (Refused n) = 0
-objectOf Done = 0
-objectOf (Epoch e) = 0
-objectOf (Listed m) = 0
-objectOf (Found n) = n
-objectOf Collected = 0
+abbrev pub object_of : Answer → ℕ
+object_of (Refused n) = 0
+object_of Done = 0
+object_of (Epoch e) = 0
+object_of (Listed m) = 0
+object_of (Found n) = n
+object_of Collected = 0
 
 abbrev pub asked : ℕ → ℕ → ℕ → Request
 asked time currency hold = Asked time (LOOK currency hold) []
 
-abbrev pub lookedBy : StepAnswer → Looked
-lookedBy a = record { code = code a.verdict.answer; object = objectOf a.verdict.answer; ledger = a.ledger }
+abbrev pub looked_by : StepAnswer → Looked
+looked_by a = record { code = code a.verdict.answer; object = object_of a.verdict.answer; ledger = a.ledger }
 
 unfoldable pub look_of : Ledger → ℕ → ℕ → ℕ → Looked
-look_of l time currency hold = lookedBy (judged l (asked time currency hold))
+look_of l time currency hold = looked_by (judged l (asked time currency hold))

@@ -5,38 +5,38 @@ use Rattle.ledger.specs.declared.Ledger.{Ledger}
 use Rattle.sheets.specs.declared.Sheet.{Sheet}
 use Rattle.sheets.specs.declared.SheetRead.{SheetRead}
 use Rattle.sheets.specs.declared.SheetRead.TheVariants.{Read, Malformed}
-use Rattle.sheets.specs.Sheets.{decodeSheet}
+use Rattle.sheets.specs.Sheets.{decode_sheet}
 use Rattle.desk.specs.declared.Looked.{Looked}
 use Rattle.desk.specs.declared.Sale.{Sale}
 use Rattle.desk.specs.declared.Sale.TheVariants.{Charged, Refused}
 use Rattle.desk.specs.declared.SaleAnswer.{SaleAnswer}
-use Rattle.desk.specs.Charge.{largestFare, chargeOf}
+use Rattle.desk.specs.Charge.{largest_fare, charge_of}
 use Rattle.desk.specs.Look.{look_of}
 
 -- the paper's number for each sale
-abbrev pub saleCode : Sale → ℕ
-saleCode (Charged n) = 0
-saleCode (Refused n) = n
+abbrev pub sale_code : Sale → ℕ
+sale_code (Charged n) = 0
+sale_code (Refused n) = n
 
 -- "A refused sale charges nothing and leaves the ledger unchanged"
-abbrev pub refusedSale : ℕ → Ledger → SaleAnswer
-refusedSale n l = record { sale = Refused n; ledger = l }
+abbrev pub refused_sale : ℕ → Ledger → SaleAnswer
+refused_sale n l = record { sale = Refused n; ledger = l }
 
 -- "a sheet whose object or currency differs": from the object that the look found and the currency that was asked
-abbrev pub isInForce : Sheet → ℕ → ℕ → Bool
-isInForce s object currency = eqb s.object object && eqb s.currency currency
+abbrev pub is_in_force : Sheet → ℕ → ℕ → Bool
+is_in_force s object currency = eqb s.object object && eqb s.currency currency
 
 -- the sale by a sheet and a look; "otherwise the ledger after the look comes back"
-abbrev pub soldBy : Ledger → Sheet → ℕ → ℕ → Looked → SaleAnswer
-soldBy l s currency fare a =
+abbrev pub sold_by : Ledger → Sheet → ℕ → ℕ → Looked → SaleAnswer
+sold_by l s currency fare a =
     cond (eqb a.code 0)
-    (cond (isInForce s a.object currency) (record { sale = Charged (chargeOf fare s.numerator s.denominator); ledger = a.ledger }) (refusedSale 30 l))
-    (refusedSale a.code l)
+    (cond (is_in_force s a.object currency) (record { sale = Charged (charge_of fare s.numerator s.denominator); ledger = a.ledger }) (refused_sale 30 l))
+    (refused_sale a.code l)
 
 -- "It makes one LOOK at that time": with the currency and the hold that were asked
-abbrev pub saleWith : Ledger → ℕ → ℕ → ℕ → ℕ → SheetRead → SaleAnswer
-saleWith l time currency hold fare Malformed = refusedSale 2 l
-saleWith l time currency hold fare (Read s) = cond (ltb largestFare fare) (refusedSale 2 l) (soldBy l s currency fare (look_of l time currency hold))
+abbrev pub sale_with : Ledger → ℕ → ℕ → ℕ → ℕ → SheetRead → SaleAnswer
+sale_with l time currency hold fare Malformed = refused_sale 2 l
+sale_with l time currency hold fare (Read s) = cond (ltb largest_fare fare) (refused_sale 2 l) (sold_by l s currency fare (look_of l time currency hold))
 
-unfoldable pub saleOf : Ledger → ℕ → List ℕ → ℕ → ℕ → ℕ → SaleAnswer
-saleOf l time sheet currency hold fare = saleWith l time currency hold fare (decodeSheet sheet)
+unfoldable pub sale_of : Ledger → ℕ → List ℕ → ℕ → ℕ → ℕ → SaleAnswer
+sale_of l time sheet currency hold fare = sale_with l time currency hold fare (decode_sheet sheet)

@@ -2,11 +2,11 @@
 // ledger it knows only what Ledger::step promises.
 ghost use Rattle.std.specs.Prelude.{◌≡◌, true, ◌≤◌};
 ghost use Rattle.rules.specs.Step.{code as code_of};
-ghost use Rattle.sheets.specs.Sheets.{sheetFormed};
-ghost use Rattle.desk.specs.Charge.{largestFare, chargeOf};
-ghost use Rattle.desk.specs.Look.{objectOf, look_of};
-ghost use Rattle.desk.specs.Sale.{refusedSale, soldBy, saleOf};
-ghost use Rattle.desk.specs.Card.{filled, cardOf, answer_of, row_of};
+ghost use Rattle.sheets.specs.Sheets.{sheet_formed};
+ghost use Rattle.desk.specs.Charge.{largest_fare, charge_of};
+ghost use Rattle.desk.specs.Look.{object_of, look_of};
+ghost use Rattle.desk.specs.Sale.{refused_sale, sold_by, sale_of};
+ghost use Rattle.desk.specs.Card.{filled, card_of, answer_of, row_of};
 
 use ledger::Ledger;
 use rules::{Answer, Kind, NAMES, NameList, Step};
@@ -57,7 +57,7 @@ fn code_of(answer: Answer) -> u8
 }
 
 fn object_of(answer: Answer) -> u64
-    ensures { result ≡ objectOf answer }
+    ensures { result ≡ object_of answer }
 {
     match answer {
         Answer::Refused(_) => 0,
@@ -97,14 +97,14 @@ pub fn look(ledger: Ledger, time: u64, currency: u16, hold: u64) -> Looked
 
 // The fare in the currency of the sheet, rounded up. No product leaves 64 bits.
 fn charge(fare: u64, sheet: Sheet) -> u64
-    requires { (fare ≤ largestFare) × (sheetFormed sheet ≡ true) }
-    ensures { result ≡ chargeOf fare sheet.numerator sheet.denominator }
+    requires { (fare ≤ largest_fare) × (sheet_formed sheet ≡ true) }
+    ensures { result ≡ charge_of fare sheet.numerator sheet.denominator }
 {
     (fare * sheet.numerator + (sheet.denominator - 1)) / sheet.denominator
 }
 
 fn refused(code: u8, ledger: Ledger) -> SaleAnswer
-    ensures { result ≡ refusedSale code ledger }
+    ensures { result ≡ refused_sale code ledger }
 {
     SaleAnswer {
         sale: Sale::Refused(code),
@@ -114,8 +114,8 @@ fn refused(code: u8, ledger: Ledger) -> SaleAnswer
 
 // The sale by a sheet and what the look found: the ledger after the look, or where it is refused the one before.
 fn sold(ledger: Ledger, sheet: Sheet, currency: u16, fare: u64, found: Looked) -> SaleAnswer
-    requires { (fare ≤ largestFare) × (sheetFormed sheet ≡ true) }
-    ensures { result ≡ soldBy ledger sheet currency fare found }
+    requires { (fare ≤ largest_fare) × (sheet_formed sheet ≡ true) }
+    ensures { result ≡ sold_by ledger sheet currency fare found }
 {
     if found.code != 0 {
         return refused(found.code, ledger);
@@ -143,7 +143,7 @@ pub fn sell(
     hold: u64,
     fare: u64,
 ) -> SaleAnswer
-    ensures { result ≡ saleOf ledger time bytes.now currency hold fare }
+    ensures { result ≡ sale_of ledger time bytes.now currency hold fare }
 {
     let read = sheets::read_sheet(bytes);
     let SheetRead::Read(sheet) = read else {
@@ -203,7 +203,7 @@ pub fn fill_card(
     count: usize,
     card: &mut [Entry],
 ) -> CardAnswer
-    ensures { (result ≡ answer_of ledger time hold count card.old) × (card.new ≡ cardOf ledger time hold count card.old) }
+    ensures { (result ≡ answer_of ledger time hold count card.old) × (card.new ≡ card_of ledger time hold count card.old) }
 {
     if card.len() < count {
         return CardAnswer {

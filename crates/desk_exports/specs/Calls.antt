@@ -5,17 +5,17 @@ use Rattle.fields.specs.Fields.{over}
 use Rattle.sheets.specs.declared.Sheet.{Sheet}
 use Rattle.sheets.specs.declared.SheetRead.{SheetRead}
 use Rattle.sheets.specs.declared.SheetRead.TheVariants.{Read, Malformed}
-use Rattle.sheets.specs.Sheets.{decodeSheet, sheetWriting, sheetCode}
+use Rattle.sheets.specs.Sheets.{decode_sheet, sheet_writing, sheet_code}
 use Rattle.desk.specs.declared.Sale.{Sale}
 use Rattle.desk.specs.declared.Sale.TheVariants.{Charged, Refused}
 use Rattle.desk.specs.declared.SaleAnswer.{SaleAnswer}
 use Rattle.desk.specs.declared.Entry.{Entry}
 use Rattle.desk.specs.declared.RowFilled.{RowFilled}
-use Rattle.desk.specs.Sale.{saleCode, saleOf}
-use Rattle.desk.specs.Card.{row_of, rowLimit}
+use Rattle.desk.specs.Sale.{sale_code, sale_of}
+use Rattle.desk.specs.Card.{row_of, row_limit}
 use Rattle.exports.specs.Names.{Call}
 use Rattle.exports.specs.Codec.{written}
-use Rattle.ledger_numbers.specs.Numbers.{ledgerFrom, laidBack, ledgerSize}
+use Rattle.ledger_numbers.specs.Numbers.{ledger_from, laid_back, ledger_size}
 
 -- a currency above 65,535 is taken as 65,535, which no sheet has
 abbrev pub narrow : ℕ → ℕ
@@ -23,30 +23,30 @@ narrow c = cond (ltb 65535 c) 65535 c
 
 -- Sheets: object, currency, numerator, denominator
 
-abbrev pub sheetNumbers : Sheet → List ℕ
-sheetNumbers s = s.object ∷ s.currency ∷ s.numerator ∷ s.denominator ∷ []
+abbrev pub sheet_numbers : Sheet → List ℕ
+sheet_numbers s = s.object ∷ s.currency ∷ s.numerator ∷ s.denominator ∷ []
 
-abbrev pub sheetTold : SheetRead → List ℕ → Call
-sheetTold Malformed numbers = record { answer = sheetCode Malformed; left = numbers }
-sheetTold (Read s) numbers = record { answer = sheetCode (Read s); left = over (sheetNumbers s) numbers }
+abbrev pub sheet_told : SheetRead → List ℕ → Call
+sheet_told Malformed numbers = record { answer = sheet_code Malformed; left = numbers }
+sheet_told (Read s) numbers = record { answer = sheet_code (Read s); left = over (sheet_numbers s) numbers }
 
 -- 3 where there is no place for the numbers, 2 for no sheet
-unfoldable pub readSheet : List ℕ → List ℕ → Call
-readSheet bytes numbers = cond (ltb (length numbers) 4) (record { answer = 3; left = numbers }) (sheetTold (decodeSheet bytes) numbers)
+unfoldable pub read_sheet : List ℕ → List ℕ → Call
+read_sheet bytes numbers = cond (ltb (length numbers) 4) (record { answer = 3; left = numbers }) (sheet_told (decode_sheet bytes) numbers)
 
-abbrev pub sheetOf : List ℕ → Sheet
-sheetOf v = record { object = get_or v 0 0; currency = narrow (get_or v 1 0); numerator = get_or v 2 0; denominator = get_or v 3 0 }
+abbrev pub sheet_of : List ℕ → Sheet
+sheet_of v = record { object = get_or v 0 0; currency = narrow (get_or v 1 0); numerator = get_or v 2 0; denominator = get_or v 3 0 }
 
 -- 3 where the numbers are too few, 2 for what no reader takes, 0 where room is short, else 41
-unfoldable pub writeSheet : List ℕ → List ℕ → Call
-writeSheet numbers buffer = cond (ltb (length numbers) 4) (record { answer = 3; left = buffer }) (written (sheetWriting (sheetOf numbers) buffer))
+unfoldable pub write_sheet : List ℕ → List ℕ → Call
+write_sheet numbers buffer = cond (ltb (length numbers) 4) (record { answer = 3; left = buffer }) (written (sheet_writing (sheet_of numbers) buffer))
 
 -- Sales
 
 -- a refused sale charges nothing
-abbrev pub chargeIn : Sale → ℕ
-chargeIn (Charged n) = n
-chargeIn (Refused n) = 0
+abbrev pub charge_in : Sale → ℕ
+charge_in (Charged n) = n
+charge_in (Refused n) = 0
 
 pub record SaleCall : Type 0 where
   pub answer : ℕ
@@ -58,14 +58,14 @@ module _ (ledger : List ℕ) (time : ℕ) (sheet : List ℕ) (currency hold fare
   unsold = record { answer = 3; ledger = ledger; sale = sale }
 
   abbrev pub told : SaleAnswer → SaleCall
-  told a = record { answer = 0; ledger = laidBack a.ledger ledger; sale = over (saleCode a.sale ∷ chargeIn a.sale ∷ []) sale }
+  told a = record { answer = 0; ledger = laid_back a.ledger ledger; sale = over (sale_code a.sale ∷ charge_in a.sale ∷ []) sale }
 
   -- 3 where a slice is too short; 0 with the next ledger, the code and the charge
   unfoldable pub sell : SaleCall
   sell =
-      cond (ltb (length ledger) ledgerSize) unsold
+      cond (ltb (length ledger) ledger_size) unsold
       (cond (ltb (length sale) 2) unsold
-      (told (saleOf (ledgerFrom ledger) time sheet (narrow currency) hold fare)))
+      (told (sale_of (ledger_from ledger) time sheet (narrow currency) hold fare)))
 
 -- Cards: currency, code, object for each entry
 
@@ -73,14 +73,14 @@ abbrev pub blank : ℕ → Entry
 blank c = record { currency = c; code = 0; object = 0 }
 
 -- a row with the currencies of the card's first n entries
-unfoldable pub rowFrom : ℕ → List ℕ → List Entry
-rowFrom zero card = replicate rowLimit (blank 0)
-rowFrom (suc n) card = set (rowFrom n card) n (blank (narrow (get_or card (3 * n) 0)))
+unfoldable pub row_from : ℕ → List ℕ → List Entry
+row_from zero card = replicate row_limit (blank 0)
+row_from (suc n) card = set (row_from n card) n (blank (narrow (get_or card (3 * n) 0)))
 
 -- the codes and objects of the row's first n entries in their places
-unfoldable pub putFilled : List Entry → ℕ → List ℕ → List ℕ
-putFilled row zero card = card
-putFilled row (suc n) card = set (set (putFilled row n card) (3 * n + 1) (get_or row n (blank 0)).code) (3 * n + 2) (get_or row n (blank 0)).object
+unfoldable pub put_filled : List Entry → ℕ → List ℕ → List ℕ
+put_filled row zero card = card
+put_filled row (suc n) card = set (set (put_filled row n card) (3 * n + 1) (get_or row n (blank 0)).code) (3 * n + 2) (get_or row n (blank 0)).object
 
 pub record CardCall : Type 0 where
   pub answer : ℕ
@@ -91,13 +91,13 @@ module _ (ledger : List ℕ) (time hold count : ℕ) (card : List ℕ) where
   abbrev pub unfilled : ℕ → CardCall
   unfilled n = record { answer = n; ledger = ledger; card = card }
 
-  abbrev pub filledIn : RowFilled → CardCall
-  filledIn a = record { answer = a.code; ledger = laidBack a.ledger ledger; card = putFilled a.entries count card }
+  abbrev pub filled_in : RowFilled → CardCall
+  filled_in a = record { answer = a.code; ledger = laid_back a.ledger ledger; card = put_filled a.entries count card }
 
   -- 3 where the ledger's numbers are too few or the card is too long; 2 where it has fewer entries than the count
-  unfoldable pub fillCard : CardCall
-  fillCard =
-      cond (ltb (length ledger) ledgerSize) (unfilled 3)
-      (cond (ltb rowLimit (length card / 3)) (unfilled 3)
+  unfoldable pub fill_card : CardCall
+  fill_card =
+      cond (ltb (length ledger) ledger_size) (unfilled 3)
+      (cond (ltb row_limit (length card / 3)) (unfilled 3)
       (cond (ltb (length card / 3) count) (unfilled 2)
-      (filledIn (row_of (ledgerFrom ledger) time hold count (rowFrom count card)))))
+      (filled_in (row_of (ledger_from ledger) time hold count (row_from count card)))))

@@ -1,8 +1,8 @@
 // The sale desk for C: numbers and byte slices, no `requires`. include/cuudhaqil_desk.h says what each call promises.
 ghost use Rattle.std.specs.Prelude.{◌≡◌, ◌*◌, ◌≤◌, length};
-ghost use Rattle.desk.specs.Card.{rowLimit};
-ghost use Rattle.desk.specs.Sale.{saleCode};
-ghost use Rattle.desk_exports.specs.Calls.{narrow, chargeIn, readSheet, writeSheet, sell, rowFrom, putFilled, fillCard};
+ghost use Rattle.desk.specs.Card.{row_limit};
+ghost use Rattle.desk.specs.Sale.{sale_code};
+ghost use Rattle.desk_exports.specs.Calls.{narrow, charge_in, read_sheet, write_sheet, sell, row_from, put_filled, fill_card};
 
 use desk::{Entry, ROW, Sale};
 use exports::{MALFORMED, NO_PLACE, codec};
@@ -31,7 +31,7 @@ fn narrow_currency(c: u64) -> u16
 // Reads all the bytes as one rate sheet: its four numbers.
 #[unsafe(no_mangle)]
 pub extern "C" fn cuudhaqil_read_sheet(bytes: &[u8], numbers: &mut [u64]) -> u64
-    ensures { readSheet bytes.now numbers.old ≡ record { answer = result; left = numbers.new } }
+    ensures { read_sheet bytes.now numbers.old ≡ record { answer = result; left = numbers.new } }
 {
     if numbers.len() < SHEET {
         return NO_PLACE;
@@ -48,7 +48,7 @@ pub extern "C" fn cuudhaqil_read_sheet(bytes: &[u8], numbers: &mut [u64]) -> u64
 // Writes the record of a rate sheet, said as the reader says it, at the start of `out`.
 #[unsafe(no_mangle)]
 pub extern "C" fn cuudhaqil_write_sheet(numbers: &[u64], out: &mut [u8]) -> u64
-    ensures { writeSheet numbers.now out.old ≡ record { answer = result; left = out.new } }
+    ensures { write_sheet numbers.now out.old ≡ record { answer = result; left = out.new } }
 {
     if numbers.len() < SHEET {
         return NO_PLACE;
@@ -66,7 +66,7 @@ pub extern "C" fn cuudhaqil_write_sheet(numbers: &[u64], out: &mut [u8]) -> u64
 // Sales
 
 fn sale_code(s: Sale) -> u64
-    ensures { result ≡ saleCode s }
+    ensures { result ≡ sale_code s }
 {
     match s {
         Sale::Charged(_) => 0,
@@ -75,7 +75,7 @@ fn sale_code(s: Sale) -> u64
 }
 
 fn charge_in(s: Sale) -> u64
-    ensures { result ≡ chargeIn s }
+    ensures { result ≡ charge_in s }
 {
     match s {
         Sale::Charged(n) => n,
@@ -117,8 +117,8 @@ pub extern "C" fn cuudhaqil_sell(
 
 // A row with the currencies of the card's first entries.
 fn row_from(card: &[u64], count: usize) -> [Entry; ROW]
-    requires { (count ≤ rowLimit) × (3 * count ≤ length card.now) }
-    ensures { result ≡ rowFrom count card.now }
+    requires { (count ≤ row_limit) × (3 * count ≤ length card.now) }
+    ensures { result ≡ row_from count card.now }
 {
     let zero = Entry {
         currency: 0,
@@ -141,8 +141,8 @@ fn row_from(card: &[u64], count: usize) -> [Entry; ROW]
 
 // Lays the codes and objects of the row's first entries over the card's.
 fn put_filled(row: [Entry; ROW], count: usize, card: &mut [u64])
-    requires { (count ≤ rowLimit) × (3 * count ≤ length card.old) }
-    ensures { card.new ≡ putFilled row count card.old }
+    requires { (count ≤ row_limit) × (3 * count ≤ length card.old) }
+    ensures { card.new ≡ put_filled row count card.old }
 {
     let mut i: usize = 0;
     while i < count {
@@ -162,7 +162,7 @@ pub extern "C" fn cuudhaqil_fill_card(
     count: u64,
     card: &mut [u64],
 ) -> u64
-    ensures { fillCard ledger.old time hold count card.old ≡ record { answer = result; ledger = ledger.new; card = card.new } }
+    ensures { fill_card ledger.old time hold count card.old ≡ record { answer = result; ledger = ledger.new; card = card.new } }
 {
     if ledger.len() < LEDGER {
         return NO_PLACE;

@@ -4,7 +4,7 @@ use Rattle.std.specs.Prelude.{cond, List, ℕ, eqb, length, set}
 use Rattle.store_names.specs.declared.Name.TheVariants.{Manifest, Object}
 use Rattle.store_names.specs.declared.NameRead.{NameRead}
 use Rattle.store_names.specs.declared.NameRead.TheVariants.{Name as IsName, Malformed as NotName}
-use Rattle.store_names.specs.Names.{decode, read_code, number_of, Writing, writing, writeCode}
+use Rattle.store_names.specs.Names.{decode, read_code, number_of, Writing, writing, write_code}
 
 -- the answer, and every element of the slice
 pub record Call : Type 0 where
@@ -17,18 +17,18 @@ with_number (IsName v) numbers = set numbers 0 (number_of v)
 with_number NotName numbers = numbers
 
 -- 3 where there is no place for the number; else the kind, or 2 for bytes that are no name
-unfoldable pub readName : List ℕ → List ℕ → Call
-readName bytes numbers =
+unfoldable pub read_name : List ℕ → List ℕ → Call
+read_name bytes numbers =
     cond (eqb (length numbers) 0)
     (record { answer = 3; left = numbers })
     (record { answer = read_code (decode bytes); left = with_number (decode bytes) numbers })
 
 abbrev pub written : Writing → Call
-written w = record { answer = writeCode w.answer; left = w.buffer }
+written w = record { answer = write_code w.answer; left = w.buffer }
 
 -- kind 0 is a manifest, 1 an object; another is malformed
-unfoldable pub writeName : ℕ → ℕ → List ℕ → Call
-writeName kind value buffer =
+unfoldable pub write_name : ℕ → ℕ → List ℕ → Call
+write_name kind value buffer =
     cond (eqb kind 0)
     (written (writing (Manifest value) buffer))
     (cond (eqb kind 1)

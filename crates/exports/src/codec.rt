@@ -2,9 +2,9 @@
 // beside them.
 ghost use Rattle.std.specs.Prelude.{◌≡◌, ◌≤◌, length};
 ghost use Rattle.fields.specs.Fields.{over, next_of, next_code};
-ghost use Rattle.records.specs.Writing.{writeCode};
+ghost use Rattle.records.specs.Writing.{write_code};
 ghost use Rattle.ledger_numbers.specs.Numbers.{role_number};
-ghost use Rattle.exports.specs.Codec.{stepSize, stepNumbers, kind_of, fenceOf, put_of, look_of, verdictNumbers, answer_of, read_step, writeStep, readVerdict, writeVerdict};
+ghost use Rattle.exports.specs.Codec.{step_size, step_numbers, kind_of, fence_of, put_of, look_of, verdict_numbers, answer_of, read_step, write_step, read_verdict, write_verdict};
 
 use crate::{AnswerRead, FULL, MALFORMED, NO_PLACE, STEP, VERDICT};
 use fields::Next;
@@ -15,7 +15,7 @@ const READ: u64 = 0;
 
 // The writer's answer as a number.
 pub fn write_code(w: Write) -> u64
-    ensures { result ≡ writeCode w }
+    ensures { result ≡ write_code w }
 {
     match w {
         Write::Written(n) => n as u64,
@@ -40,7 +40,7 @@ pub extern "C" fn cuudhaqil_next_record(trace: &[u8]) -> u64
 
 // Kind, time, role, epoch, slot, object, currency, hold, manifest, expiry, and the list's count.
 fn step_numbers(t: u64, kind: Kind, n: u64) -> [u64; STEP]
-    ensures { result ≡ stepNumbers t kind n }
+    ensures { result ≡ step_numbers t kind n }
 {
     match kind {
         Kind::Fence { role, slot } => [
@@ -120,7 +120,7 @@ pub extern "C" fn cuudhaqil_read_step(bytes: &[u8], numbers: &mut [u64], list: &
 }
 
 fn fence_of(role: u64, slot: u64) -> KindRead
-    ensures { result ≡ fenceOf role slot }
+    ensures { result ≡ fence_of role slot }
 {
     if role == 0 {
         return KindRead::Known(Kind::Fence {
@@ -175,7 +175,7 @@ fn look_of(money: u64, hold: u64) -> KindRead
 
 // The kind that the numbers of a step say; those that it does not have play no part.
 pub(crate) fn kind_of(v: &[u64]) -> KindRead
-    requires { stepSize ≤ length v.now }
+    requires { step_size ≤ length v.now }
     ensures { result ≡ kind_of v.now }
 {
     let role = v[2];
@@ -212,7 +212,7 @@ pub(crate) fn kind_of(v: &[u64]) -> KindRead
 // Writes the record of a step, said as the reader says it, at the start of `out`.
 #[unsafe(no_mangle)]
 pub extern "C" fn cuudhaqil_write_step(numbers: &[u64], list: &[u64], out: &mut [u8]) -> u64
-    ensures { writeStep numbers.now list.now out.old ≡ record { answer = result; left = out.new } }
+    ensures { write_step numbers.now list.now out.old ≡ record { answer = result; left = out.new } }
 {
     if numbers.len() < STEP {
         return NO_PLACE;
@@ -241,7 +241,7 @@ pub extern "C" fn cuudhaqil_write_step(numbers: &[u64], list: &[u64], out: &mut 
 
 // The answer's case, its value, and the list's count.
 pub fn verdict_numbers(answer: Answer, n: u64) -> [u64; VERDICT]
-    ensures { result ≡ verdictNumbers answer n }
+    ensures { result ≡ verdict_numbers answer n }
 {
     match answer {
         Answer::Refused(row) => [0, row as u64, n],
@@ -256,7 +256,7 @@ pub fn verdict_numbers(answer: Answer, n: u64) -> [u64; VERDICT]
 // Reads all the bytes as one verdict record: its numbers and its list's places.
 #[unsafe(no_mangle)]
 pub extern "C" fn cuudhaqil_read_verdict(bytes: &[u8], numbers: &mut [u64], list: &mut [u64]) -> u64
-    ensures { readVerdict bytes.now numbers.old list.old ≡ record { answer = result; numbers = numbers.new; list = list.new } }
+    ensures { read_verdict bytes.now numbers.old list.old ≡ record { answer = result; numbers = numbers.new; list = list.new } }
 {
     if numbers.len() < VERDICT {
         return NO_PLACE;
@@ -302,7 +302,7 @@ fn answer_of(case: u64, value: u64) -> AnswerRead
 // Writes the record of a verdict, said as the reader says it, at the start of `out`.
 #[unsafe(no_mangle)]
 pub extern "C" fn cuudhaqil_write_verdict(numbers: &[u64], list: &[u64], out: &mut [u8]) -> u64
-    ensures { writeVerdict numbers.now list.now out.old ≡ record { answer = result; left = out.new } }
+    ensures { write_verdict numbers.now list.now out.old ≡ record { answer = result; left = out.new } }
 {
     if numbers.len() < VERDICT {
         return NO_PLACE;

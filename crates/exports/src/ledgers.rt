@@ -3,8 +3,8 @@ ghost use Rattle.std.specs.Prelude.{◌≡◌, ◌≤◌, length, get_or, take};
 ghost use Rattle.rules.specs.Limits.{limits};
 ghost use Rattle.fields.specs.Fields.{over};
 ghost use Rattle.ledger.specs.Step.{judged};
-ghost use Rattle.exports.specs.Codec.{stepSize, verdictSize, verdictNumbers, kind_of};
-ghost use Rattle.exports.specs.Ledgers.{fresh, soundness, current, version, requestOf, step};
+ghost use Rattle.exports.specs.Codec.{step_size, verdict_size, verdict_numbers, kind_of};
+ghost use Rattle.exports.specs.Ledgers.{fresh, soundness, current, version, request_of, step};
 
 use crate::{NO_PLACE, NOT_SOUND, STEP, VERDICT, codec};
 use ledger::{Ledger, StepAnswer};
@@ -81,7 +81,7 @@ pub extern "C" fn cuudhaqil_version() -> u64
 
 // The step of that kind, with its time and its list.
 fn step_from(kind: Kind, numbers: &[u64], list: &[u64]) -> Step
-    requires { (stepSize ≤ length numbers.now) × (limits.names ≤ length list.now) }
+    requires { (step_size ≤ length numbers.now) × (limits.names ≤ length list.now) }
     ensures { result ≡ record { time = get_or numbers.now 1 0; kind = kind; list = record { count = get_or numbers.now 10 0; names = take limits.names list.now } } }
 {
     let time = numbers[1];
@@ -99,8 +99,8 @@ fn step_from(kind: Kind, numbers: &[u64], list: &[u64]) -> Step
 // The verdict and the next ledger of the step that the numbers say. Numbers that say no kind are refused as bytes that are no
 // step.
 fn judge(old: Ledger, numbers: &[u64], list: &[u64]) -> StepAnswer
-    requires { (stepSize ≤ length numbers.now) × (limits.names ≤ length list.now) }
-    ensures { result ≡ judged old (requestOf (kind_of numbers.now) numbers.now list.now) }
+    requires { (step_size ≤ length numbers.now) × (limits.names ≤ length list.now) }
+    ensures { result ≡ judged old (request_of (kind_of numbers.now) numbers.now list.now) }
 {
     let read = codec::kind_of(numbers);
     let KindRead::Known(kind) = read else {
@@ -112,8 +112,8 @@ fn judge(old: Ledger, numbers: &[u64], list: &[u64]) -> StepAnswer
 
 // Lays the verdict's numbers and its list over the start of the others.
 fn put_verdict(said: Verdict, verdict: &mut [u64], objects: &mut [u64])
-    requires { (verdictSize ≤ length verdict.old) × (limits.places ≤ length objects.old) }
-    ensures { (verdict.new ≡ over (verdictNumbers said.answer said.list.count) verdict.old) × (objects.new ≡ over said.list.objects objects.old) }
+    requires { (verdict_size ≤ length verdict.old) × (limits.places ≤ length objects.old) }
+    ensures { (verdict.new ≡ over (verdict_numbers said.answer said.list.count) verdict.old) × (objects.new ≡ over said.list.objects objects.old) }
 {
     let l = said.list;
     let answer = said.answer;

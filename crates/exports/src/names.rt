@@ -1,7 +1,7 @@
 // Store names (document 01, "Records and names"), for C.
 ghost use Rattle.std.specs.Prelude.{◌≡◌};
-ghost use Rattle.store_names.specs.Names.{writeCode};
-ghost use Rattle.exports.specs.Names.{readName, writeName};
+ghost use Rattle.store_names.specs.Names.{write_code};
+ghost use Rattle.exports.specs.Names.{read_name, write_name};
 
 use crate::{FULL, MALFORMED, NO_PLACE};
 use store_names::{Name, NameRead, NameWrite};
@@ -14,7 +14,7 @@ const OBJECT: u64 = 1;
 // Reads all the bytes as one name: its kind, and its number in number[0].
 #[unsafe(no_mangle)]
 pub extern "C" fn cuudhaqil_read_name(name: &[u8], number: &mut [u64]) -> u64
-    ensures { readName name.now number.old ≡ record { answer = result; left = number.new } }
+    ensures { read_name name.now number.old ≡ record { answer = result; left = number.new } }
 {
     if number.len() == 0 {
         return NO_PLACE;
@@ -37,7 +37,7 @@ pub extern "C" fn cuudhaqil_read_name(name: &[u8], number: &mut [u64]) -> u64
 
 // The writer's answer as a number.
 fn write_code(w: NameWrite) -> u64
-    ensures { result ≡ writeCode w }
+    ensures { result ≡ write_code w }
 {
     match w {
         NameWrite::Written(n) => n as u64,
@@ -49,7 +49,7 @@ fn write_code(w: NameWrite) -> u64
 // Writes the name of that kind and number at the start of `out`.
 #[unsafe(no_mangle)]
 pub extern "C" fn cuudhaqil_write_name(kind: u64, value: u64, out: &mut [u8]) -> u64
-    ensures { writeName kind value out.old ≡ record { answer = result; left = out.new } }
+    ensures { write_name kind value out.old ≡ record { answer = result; left = out.new } }
 {
     if kind == MANIFEST {
         return write_code(store_names::write_name(Name::Manifest(value), out));

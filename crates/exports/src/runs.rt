@@ -1,7 +1,7 @@
 // A trace run from C: on the fresh ledger, or on one that is lent as numbers.
 ghost use Rattle.std.specs.Prelude.{◌≡◌};
-ghost use Rattle.replay.specs.Replay.{endingCode};
-ghost use Rattle.exports.specs.Runs.{run, runOn};
+ghost use Rattle.replay.specs.Replay.{ending_code};
+ghost use Rattle.exports.specs.Runs.{run, run_on};
 
 use crate::NO_PLACE;
 use ledger::Ledger;
@@ -12,7 +12,7 @@ use replay::Ending;
 const COUNTS: usize = 2;
 
 fn ending_code(ending: Ending) -> u64
-    ensures { result ≡ endingCode ending }
+    ensures { result ≡ ending_code ending }
 {
     match ending {
         Ending::Whole => 0,
@@ -45,7 +45,7 @@ pub extern "C" fn cuudhaqil_run_on(
     out: &mut [u8],
     counts: &mut [u64],
 ) -> u64
-    ensures { runOn ledger.old trace.now out.old counts.old ≡ record { answer = result; ledger = ledger.new; out = out.new; counts = counts.new } }
+    ensures { run_on ledger.old trace.now out.old counts.old ≡ record { answer = result; ledger = ledger.new; out = out.new; counts = counts.new } }
 {
     if ledger.len() < LEDGER {
         return NO_PLACE;

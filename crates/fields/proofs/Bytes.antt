@@ -10,7 +10,7 @@ use lib.Arith.{digits_div, digits_mod, mod-mul}
 use lib.Dec.{lit<}
 use lib.ListN.{length, get_or, set, take, drop, drop_of_length-le, length-append, length-drop}
 use lib.Seq.{take-suc, drop-cons, drop-drop, set_split, take_at, drop_at, take-add, get_or-drop, length-take-le}
-use Rattle.fields.specs.Bytes.{be, valueFrom, value_of, kept64, words, words_of}
+use Rattle.fields.specs.Bytes.{be, value_from, value_of, kept64, words, words_of}
 
 -- ---- numbers that are all below a bound: bytes below 256, words below 2 ^ 64
 
@@ -57,46 +57,46 @@ be-below (suc w) n = below-append 256 (be w (n / 256)) (n % 256 ∷ []) (be-belo
 
 -- ---- reading undoes writing
 
-pub value-append : (n : ℕ) (l r : List ℕ) → valueFrom n (l ++ r) ≡ valueFrom (valueFrom n l) r
-unfolding valueFrom
+pub value-append : (n : ℕ) (l r : List ℕ) → value_from n (l ++ r) ≡ value_from (value_from n l) r
+unfolding value_from
 value-append n [] r = refl
 value-append n (b ∷ l) r = value-append (n * 256 + b) l r
 
 -- ---- bytes from a place on, in two halves
 
-value-shift : (n : ℕ) (l : List ℕ) → valueFrom n l ≡ n * 256 ^ length l + value_of l
-unfolding valueFrom
-value-shift n [] = omega arith
-value-shift n (b ∷ l) =
+value_shift : (n : ℕ) (l : List ℕ) → value_from n l ≡ n * 256 ^ length l + value_of l
+unfolding value_from
+value_shift n [] = omega arith
+value_shift n (b ∷ l) =
     let p = 256 ^ length l in
     let more : 256 ^ suc (length l) ≡ p * 256 = pow-suc 256 (length l) in
     let front : n * 256 * p ≡ n * (p * 256) = mul_assoc n 256 p ∙ ap (λ (k : ℕ). n * k) (mul_comm 256 p) in
-    rw (value-shift (n * 256 + b) l, value-shift (0 * 256 + b) l, more, add-mul, zero-mul, zero-add) (omega (arith, front))
+    rw (value_shift (n * 256 + b) l, value_shift (0 * 256 + b) l, more, add-mul, zero-mul, zero-add) (omega (arith, front))
 
 pub value-one : (at : ℕ) (s : List ℕ) → at < length s → value_of (take 1 (drop at s)) ≡ get_or s at 0
-unfolding valueFrom
+unfolding value_from
 value-one at s h = rw (drop-cons s at 0 h) (zero-add (get_or s at 0))
 
 module _ (at : ℕ) (s : List ℕ) where
-  pub value-halves : (k m : ℕ) → at + k + m ≤ length s → value_of (take (k + m) (drop at s)) ≡ value_of (take k (drop at s)) * 256 ^ m + value_of (take m (drop (at + k) s))
-  value-halves k m h =
-      rw (take-add k m (drop at s), value-append, value-shift (value_of (take k (drop at s))), drop-drop k at s, length-take-le m (drop (at + k) s) (omega (arith, length-drop (at + k) s)))
+  pub value_halves : (k m : ℕ) → at + k + m ≤ length s → value_of (take (k + m) (drop at s)) ≡ value_of (take k (drop at s)) * 256 ^ m + value_of (take m (drop (at + k) s))
+  value_halves k m h =
+      rw (take-add k m (drop at s), value-append, value_shift (value_of (take k (drop at s))), drop-drop k at s, length-take-le m (drop (at + k) s) (omega (arith, length-drop (at + k) s)))
 
-  pub value-two : at + 2 ≤ length s → value_of (take 2 (drop at s)) ≡ get_or s at 0 * 256 + get_or s (at + 1) 0
-  value-two h = value-halves 1 1 (omega arith) ∙ rw (value-one at s (omega arith), value-one (at + 1) s (omega arith))
+  pub value_two : at + 2 ≤ length s → value_of (take 2 (drop at s)) ≡ get_or s at 0 * 256 + get_or s (at + 1) 0
+  value_two h = value_halves 1 1 (omega arith) ∙ rw (value-one at s (omega arith), value-one (at + 1) s (omega arith))
 
-pub value-four : (at : ℕ) (s : List ℕ) → at + 4 ≤ length s
+pub value_four : (at : ℕ) (s : List ℕ) → at + 4 ≤ length s
     → value_of (take 4 (drop at s)) ≡ get_or s at 0 * 16777216 + get_or s (at + 1) 0 * 65536 + get_or s (at + 2) 0 * 256 + get_or s (at + 3) 0
-value-four at s h =
+value_four at s h =
     let next : at + 2 + 1 ≡ at + 3 = omega arith in
-    omega (arith, value-halves at s 2 2 (omega arith), value-two at s (omega arith), value-two (at + 2) s (omega arith), ap (λ (i : ℕ). get_or s i 0) next)
+    omega (arith, value_halves at s 2 2 (omega arith), value_two at s (omega arith), value_two (at + 2) s (omega arith), ap (λ (i : ℕ). get_or s i 0) next)
 
 power_pos : (w : ℕ) → 0 < 256 ^ w
 power_pos w = pow-le-pow_right (lit< tt) {i = 0} {j = w} (omega arith)
 
 -- the last w bytes of a number say what remains of it by 256 ^ w
 pub value-be : (w n : ℕ) → value_of (be w n) ≡ n % 256 ^ w
-unfolding be valueFrom
+unfolding be value_from
 value-be zero n = sym (mod-one n)
 value-be (suc w) n = rw (value-append, value-be w (n / 256), pow-suc) (sym (mod-mul n (power_pos w) (lit< tt)))
 
@@ -106,16 +106,16 @@ value-be-fits w n h = value-be w n ∙ mod-eq_of_lt h
 -- ---- and writing undoes reading
 
 -- the bytes behind others that said n
-be-value-from : (w n : ℕ) (l : List ℕ) → Below 256 l → be (w + length l) (valueFrom n l) ≡ be w n ++ l
-unfolding be valueFrom
-be-value-from w n [] h = rw (add-zero, append-nil)
-be-value-from w n (b ∷ l) h =
+be-value_from : (w n : ℕ) (l : List ℕ) → Below 256 l → be (w + length l) (value_from n l) ≡ be w n ++ l
+unfolding be value_from
+be-value_from w n [] h = rw (add-zero, append-nil)
+be-value_from w n (b ∷ l) h =
     let turn : w + length (b ∷ l) ≡ suc w + length l = omega arith in
-    rw (turn, be-value-from (suc w) (n * 256 + b) l (λ i. h (suc i)), digits_div n (h zero), digits_mod n (h zero), append_assoc)
+    rw (turn, be-value_from (suc w) (n * 256 + b) l (λ i. h (suc i)), digits_div n (h zero), digits_mod n (h zero), append_assoc)
 
 pub be-value : (l : List ℕ) → Below 256 l → be (length l) (value_of l) ≡ l
 unfolding be
-be-value l h = rw zero-add at (be-value-from 0 0 l h)
+be-value l h = rw zero-add at (be-value_from 0 0 l h)
 
 pub value-below : (l : List ℕ) → Below 256 l → value_of l < 256 ^ length l
 value-below l h =
@@ -135,9 +135,9 @@ kept-value l h few = kept (value_of l) (lt_of_lt_of_le (value-below l h) (pow-le
 pub kept_byte : (n b : ℕ) → b < 256 → kept64 n % 72057594037927936 * 256 + b ≡ kept64 (n * 256 + b)
 kept_byte n b h = omega arith
 
-pub value-more : (l : List ℕ) (i : ℕ) → i < length l → value_of (take (i + 1) l) ≡ value_of (take i l) * 256 + get_or l i 0
-unfolding valueFrom
-value-more l i h = rw (add-one, take-suc l i 0 h, value-append)
+pub value_more : (l : List ℕ) (i : ℕ) → i < length l → value_of (take (i + 1) l) ≡ value_of (take i l) * 256 + get_or l i 0
+unfolding value_from
+value_more l i h = rw (add-one, take-suc l i 0 h, value-append)
 
 -- ---- a byte stored at the front of what is left
 
@@ -145,9 +145,9 @@ pub drop-set : (l : List ℕ) (i v : ℕ) → i < length l → drop i (set l i v
 drop-set l i v h = rw (set_split l i v h, add-one) (drop_at (take i l) (v ∷ drop (suc i) l) i (length-take-le i l (omega arith)))
 
 -- eight bytes stored one after the other are all there is
-pub eight-set : (l : List ℕ) (a b c d e f g h : ℕ) → length l ≡ 8
+pub eight_set : (l : List ℕ) (a b c d e f g h : ℕ) → length l ≡ 8
     → set (set (set (set (set (set (set (set l 0 a) 1 b) 2 c) 3 d) 4 e) 5 f) 6 g) 7 h ≡ a ∷ b ∷ c ∷ d ∷ e ∷ f ∷ g ∷ h ∷ []
-eight-set l a b c d e f g h long =
+eight_set l a b c d e f g h long =
     ap (λ (m : List ℕ). set (set (set (set (set (set (set (set m 0 a) 1 b) 2 c) 3 d) 4 e) 5 f) 6 g) 7 h)
     (at 0 (omega arith) ∙ ap (cons 0) (at 1 (omega arith) ∙ ap (cons 1) (at 2 (omega arith) ∙ ap (cons 2) (at 3 (omega arith) ∙ ap (cons 3)
     (at 4 (omega arith) ∙ ap (cons 4) (at 5 (omega arith) ∙ ap (cons 5) (at 6 (omega arith) ∙ ap (cons 6) (at 7 (omega arith) ∙ ap (cons 7) (drop_of_length-le l {i = 8} (omega arith))))))))))
@@ -174,48 +174,48 @@ pub words-from : (l : List ℕ) (i : ℕ) → i < length l → words (drop i l) 
 unfolding words
 words-from l i h = rw (add-one, drop-cons l i 0 h)
 
-pub words-end : (l : List ℕ) (i : ℕ) → length l ≤ i → words (drop i l) ≡ []
+pub words_end : (l : List ℕ) (i : ℕ) → length l ≤ i → words (drop i l) ≡ []
 unfolding words
-words-end l i h = rw (drop_of_length-le l h)
+words_end l i h = rw (drop_of_length-le l h)
 
-pub wordsOf-from : (k i : ℕ) (bs : List ℕ) → i < k → words_of (k - i) (drop (8 * i) bs) ≡ kept64 (value_of (take 8 (drop (8 * i) bs))) ∷ words_of (k - (i + 1)) (drop (8 * (i + 1)) bs)
+pub words_of-from : (k i : ℕ) (bs : List ℕ) → i < k → words_of (k - i) (drop (8 * i) bs) ≡ kept64 (value_of (take 8 (drop (8 * i) bs))) ∷ words_of (k - (i + 1)) (drop (8 * (i + 1)) bs)
 unfolding words_of
-wordsOf-from k i bs h =
+words_of-from k i bs h =
     let more : k - i ≡ suc (k - (i + 1)) = omega arith in
     let place : 8 * i + 8 ≡ 8 * (i + 1) = omega arith in
     rw (more, drop-drop 8 (8 * i) bs, place)
 
-pub wordsOf-end : (k i : ℕ) (bs : List ℕ) → k ≤ i → words_of (k - i) bs ≡ []
+pub words_of_end : (k i : ℕ) (bs : List ℕ) → k ≤ i → words_of (k - i) bs ≡ []
 unfolding words_of
-wordsOf-end k i bs h =
+words_of_end k i bs h =
     let none : k - i ≡ 0 = omega arith in
     rw none
 
-pub length-wordsOf : (k : ℕ) (bs : List ℕ) → length (words_of k bs) ≡ k
+pub length-words_of : (k : ℕ) (bs : List ℕ) → length (words_of k bs) ≡ k
 unfolding words_of
-length-wordsOf zero bs = refl
-length-wordsOf (suc k) bs = ap suc (length-wordsOf k (drop 8 bs))
+length-words_of zero bs = refl
+length-words_of (suc k) bs = ap suc (length-words_of k (drop 8 bs))
 
-pub wordsOf-below : (k : ℕ) (bs : List ℕ) → Below (2 ^ 64) (words_of k bs)
+pub words_of-below : (k : ℕ) (bs : List ℕ) → Below (2 ^ 64) (words_of k bs)
 unfolding words_of
-wordsOf-below zero bs i = lit< tt
-wordsOf-below (suc k) bs zero = mod-lt (value_of (take 8 bs)) (lit< tt)
-wordsOf-below (suc k) bs (suc i) = wordsOf-below k (drop 8 bs) i
+words_of-below zero bs i = lit< tt
+words_of-below (suc k) bs zero = mod-lt (value_of (take 8 bs)) (lit< tt)
+words_of-below (suc k) bs (suc i) = words_of-below k (drop 8 bs) i
 
-pub wordsOf-words : (l rest : List ℕ) → Below (2 ^ 64) l → words_of (length l) (words l ++ rest) ≡ l
+pub words_of-words : (l rest : List ℕ) → Below (2 ^ 64) l → words_of (length l) (words l ++ rest) ≡ l
 unfolding words words_of
-wordsOf-words [] rest h = refl
-wordsOf-words (n ∷ l) rest h =
+words_of-words [] rest h = refl
+words_of-words (n ∷ l) rest h =
     let long = length-be 8 n in
     let first : kept64 (value_of (be 8 n)) ≡ n = rw (value-be-fits 8 n (h zero)) (kept n (h zero)) in
-    rw (append_assoc, take_at (be 8 n) (words l ++ rest) 8 long, drop_at (be 8 n) (words l ++ rest) 8 long, first, wordsOf-words l rest (λ i. h (suc i)))
+    rw (append_assoc, take_at (be 8 n) (words l ++ rest) 8 long, drop_at (be 8 n) (words l ++ rest) 8 long, first, words_of-words l rest (λ i. h (suc i)))
 
-pub words-wordsOf : (k : ℕ) (bs : List ℕ) → Below 256 bs → 8 * k ≤ length bs → words (words_of k bs) ≡ take (8 * k) bs
+pub words-words_of : (k : ℕ) (bs : List ℕ) → Below 256 bs → 8 * k ≤ length bs → words (words_of k bs) ≡ take (8 * k) bs
 unfolding words words_of
-words-wordsOf zero bs h room = refl
-words-wordsOf (suc k) bs h room =
+words-words_of zero bs h room = refl
+words-words_of (suc k) bs h room =
     let long : length (take 8 bs) ≡ 8 = length-take-le 8 bs (omega arith) in
     let bytes = below-take 256 8 bs h in
     let first : be 8 (value_of (take 8 bs)) ≡ take 8 bs = rw long at (be-value (take 8 bs) bytes) in
     let turn : 8 * suc k ≡ 8 + 8 * k = omega arith in
-    rw (turn, take-add 8 (8 * k) bs, kept-value (take 8 bs) bytes (omega arith), first, words-wordsOf k (drop 8 bs) (below-drop 256 8 bs h) (omega (arith, length-drop 8 bs)))
+    rw (turn, take-add 8 (8 * k) bs, kept-value (take 8 bs) bytes (omega arith), first, words-words_of k (drop 8 bs) (below-drop 256 8 bs h) (omega (arith, length-drop 8 bs)))

@@ -33,9 +33,9 @@ pub head-holds : (tag : ℕ) (bs : List ℕ) → get_or bs 0 0 ≡ tag → 3 + c
 unfolding head_of
 head-holds tag bs same room = rw (le-leb 3 (length bs) (omega arith), eq-eqb (get_or bs 0 0) tag same, le-leb (claimed bs) (length bs - 3) (omega arith))
 
-pub next-end : (bs : List ℕ) → length bs ≡ 0 → next_of bs ≡ End
+pub next_end : (bs : List ℕ) → length bs ≡ 0 → next_of bs ≡ End
 unfolding next_of
-next-end bs h = rw (eq-eqb (length bs) 0 h)
+next_end bs h = rw (eq-eqb (length bs) 0 h)
 
 -- a record of which bytes are missing is torn, whichever they are
 pub next-torn : (bs : List ℕ) → 0 < length bs → length bs < 3 + claimed bs → next_of bs ≡ Torn

@@ -8,12 +8,12 @@ be zero n = []
 be (suc w) n = be w (n / 256) ++ (n % 256) ∷ []
 
 -- the number that the bytes say behind others that said n
-unfoldable pub valueFrom : ℕ → List ℕ → ℕ
-valueFrom n [] = n
-valueFrom n (b ∷ bs) = valueFrom (n * 256 + b) bs
+unfoldable pub value_from : ℕ → List ℕ → ℕ
+value_from n [] = n
+value_from n (b ∷ bs) = value_from (n * 256 + b) bs
 
 abbrev pub value_of : List ℕ → ℕ
-value_of bs = valueFrom 0 bs
+value_of bs = value_from 0 bs
 
 -- what of a number a 64-bit register keeps; of eight bytes it is all
 abbrev pub kept64 : ℕ → ℕ

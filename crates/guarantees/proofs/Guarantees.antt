@@ -1,60 +1,60 @@
 -- All that is guaranteed, by what the crates prove. Assumes nothing.
-use Rattle.store_names.proofs.RoundTrip.{round_trip}
-use Rattle.rules.proofs.Table.{refusal-keeps, verdict-smallest}
-use Rattle.rules.proofs.LastManifest.{last-manifest}
+use Rattle.store_names.proofs.RoundTrip.{round_trip_lem}
+use Rattle.rules.proofs.Table.{refusal_keeps, verdict-smallest}
+use Rattle.rules.proofs.LastManifest.{last_manifest_lem}
 use Rattle.rules.proofs.Commit.{commit-exact}
 use Rattle.rules.proofs.Demand3.{demand3-from}
 use Rattle.rules.proofs.Whole.{whole}
-use Rattle.rules.proofs.WriteOnce.{last-collected, write-once}
+use Rattle.rules.proofs.WriteOnce.{last_collected_lem, write_once_lem}
 use Rattle.rules.proofs.Rates.{looks, looks-from}
-use Rattle.rules.proofs.Raised.{old-verdicts-kept}
-use Rattle.rules.proofs.Compaction.{compactions, compactions-from, compactions-of}
+use Rattle.rules.proofs.Raised.{old_verdicts-kept}
+use Rattle.rules.proofs.Compaction.{compactions, compactions-from, compactions_of}
 use Rattle.rules.proofs.Struck.{strikes}
-use Rattle.rules.proofs.Depot.{out-of-order-holds, week-holds}
-use Rattle.records.proofs.RoundTripSteps.{step-round-trip}
-use Rattle.verdicts.proofs.RoundTrip.{verdict-round-trip}
-use Rattle.objects.proofs.Words.{occupancy-by-words}
-use Rattle.manifests.proofs.Searching.{search-by-halves}
-use Rattle.manifests.proofs.Reaching.{reach-by-halves}
-use Rattle.ledger.proofs.AnyLedger.{no_step, number-accepted, number-refused, one_number}
-use Rattle.ledger.proofs.SoundLaw.{sound-law}
-use Rattle.ledger.proofs.Looking.{look-outcome}
+use Rattle.rules.proofs.Depot.{out_of_order-holds, week-holds}
+use Rattle.records.proofs.RoundTripSteps.{step-round_trip}
+use Rattle.verdicts.proofs.RoundTrip.{verdict-round_trip}
+use Rattle.objects.proofs.Words.{occupancy-by_words}
+use Rattle.manifests.proofs.Searching.{search-by_halves}
+use Rattle.manifests.proofs.Reaching.{reach-by_halves}
+use Rattle.ledger.proofs.AnyLedger.{no_step_lem, number-accepted, number-refused, one_number_lem}
+use Rattle.ledger.proofs.SoundLaw.{sound_law}
+use Rattle.ledger.proofs.Looking.{look_outcome}
 use Rattle.ledger.proofs.Demand3.{delivered}
-use Rattle.ledger.proofs.Depot.{out-of-order-on-ledger, week-on-ledger}
-use Rattle.replay.proofs.Commit.{commits-on-bytes}
+use Rattle.ledger.proofs.Depot.{out_of_order_on_ledger_lem, week_on_ledger_lem}
+use Rattle.replay.proofs.Commit.{commits_on_bytes_lem}
 use Rattle.replay.proofs.Counts.{counted}
 use Rattle.replay.proofs.Demand3.{run-delivered}
-use Rattle.replay.proofs.Struck.{strikes-on-bytes}
-use Rattle.sheets.proofs.RoundTrip.{sheet-round-trip}
+use Rattle.replay.proofs.Struck.{strikes_on_bytes_lem}
+use Rattle.sheets.proofs.RoundTrip.{sheet_round_trip}
 use Rattle.desk.proofs.Rounding.{charge-smallest}
-use Rattle.desk.proofs.NoRate.{looked-exact, no-rate, sale-exact}
+use Rattle.desk.proofs.NoRate.{looked-exact, no_rate_lem, sale-exact}
 use Rattle.desk.proofs.Onward.{onward}
 use Rattle.listing.proofs.Cutting.{cut}
 use Rattle.listing.proofs.Whole as listing
 use Rattle.ledger_numbers.proofs.Exact.{numbers-exact}
-use Rattle.image.proofs.RoundTrip.{image-round-trip}
-use Rattle.image.proofs.Form.{image-form}
+use Rattle.image.proofs.RoundTrip.{image_round_trip}
+use Rattle.image.proofs.Form.{image_form}
 use Rattle.image.proofs.Results.{write-unsound}
-use Rattle.image_history.proofs.AfterLoad.{after-load}
-use Rattle.image_history.proofs.UnknownHistory.{unknown-history}
-use Rattle.log_check.proofs.Exact.{log-checked}
+use Rattle.image_history.proofs.AfterLoad.{after_load_lem}
+use Rattle.image_history.proofs.UnknownHistory.{unknown_history}
+use Rattle.log_check.proofs.Exact.{log_checked}
 use Rattle.guarantees.specs.Guarantees.{AsNumbers, Demand1, Demand2, Demand3, Guarantees, Request1, Request2, Request3, Request4, Request5, Request6, Request12, Request13}
-use Rattle.guarantees.proofs.Calls.{refused-sale, refused-step, unsound-run}
-use Rattle.guarantees.proofs.Compaction.{compactions-on-ledger}
+use Rattle.guarantees.proofs.Calls.{refused_sale_lem, refused_step_lem, unsound_run_lem}
+use Rattle.guarantees.proofs.Compaction.{compactions_on_ledger_lem}
 use Rattle.guarantees.proofs.Images as images
 use Rattle.guarantees.proofs.Logs as logs
-use Rattle.guarantees.proofs.Struck.{ledger-kept, strikable-on-ledger, verdicts-kept}
-use Rattle.guarantees.proofs.Fronts.{full, no-step-record, refused-record, torn, untouched}
-use Rattle.guarantees.proofs.Buffers.{steps-on-buffers, verdicts-on-buffers}
-use Rattle.guarantees.proofs.Sequences.{collectable, collects, keeps, never-charged}
+use Rattle.guarantees.proofs.Struck.{ledger_kept_lem, strikable_on_ledger, verdicts_kept_lem}
+use Rattle.guarantees.proofs.Fronts.{full, no_step_record_lem, refused_record_lem, torn, untouched}
+use Rattle.guarantees.proofs.Buffers.{steps_on_buffers_lem, verdicts_on_buffers_lem}
+use Rattle.guarantees.proofs.Sequences.{collectable, collects, keeps, never_charged}
 
 demand1 : Demand1
 demand1 = record {
-  oneNumber = one_number;
+  one_number = one_number_lem;
   refused = number-refused;
-  noStep = no_step;
-  refusedRecord = refused-record;
-  noStepRecord = no-step-record;
+  no_step = no_step_lem;
+  refused_record = refused_record_lem;
+  no_step_record = no_step_record_lem;
   untouched = untouched;
   torn = torn;
   full = full;
@@ -63,20 +63,20 @@ demand1 = record {
 demand2 : Demand2
 demand2 = record {
   accepted = number-accepted;
-  layout = sound-law;
+  layout = sound_law;
   commits = λ L s t e slot l room. commit-exact L s t e slot l room;
-  commitsOnBytes = commits-on-bytes;
+  commits_on_bytes = commits_on_bytes_lem;
   smallest = verdict-smallest;
-  keeps = refusal-keeps;
-  lastManifest = last-manifest;
+  keeps = refusal_keeps;
+  last_manifest = last_manifest_lem;
   counted = counted;
-  steps = step-round-trip;
-  verdicts = verdict-round-trip;
-  names = round_trip;
-  stepsOnBuffers = steps-on-buffers;
-  verdictsOnBuffers = verdicts-on-buffers;
+  steps = step-round_trip;
+  verdicts = verdict-round_trip;
+  names = round_trip_lem;
+  steps_on_buffers = steps_on_buffers_lem;
+  verdicts_on_buffers = verdicts_on_buffers_lem;
   week = week-holds;
-  weekOnLedger = week-on-ledger;
+  week_on_ledger = week_on_ledger_lem;
 }
 
 demand3 : Demand3
@@ -91,72 +91,72 @@ demand3 = record {
 }
 
 request1 : Request1
-request1 = record { writeOnce = write-once; lastCollected = last-collected; outOfOrder = out-of-order-holds; outOfOrderOnLedger = out-of-order-on-ledger }
+request1 = record { write_once = write_once_lem; last_collected = last_collected_lem; out_of_order = out_of_order-holds; out_of_order_on_ledger = out_of_order_on_ledger_lem }
 
 request2 : Request2
 request2 = record {
-  noRate = never-charged;
-  sales = λ asks time sheet currency hold fare. no-rate asks time currency hold sheet fare;
-  anySale = sale-exact;
+  no_rate = never_charged;
+  sales = λ asks time sheet currency hold fare. no_rate_lem asks time currency hold sheet fare;
+  any_sale = sale-exact;
   charge = charge-smallest;
   looks = looks;
-  looksOnward = looks-from;
+  looks_onward = looks-from;
   looked = looked-exact;
-  anyLook = look-outcome;
+  any_look = look_outcome;
   onward = onward;
-  sheets = sheet-round-trip;
+  sheets = sheet_round_trip;
 }
 
 request3 : Request3
-request3 = record { search = search-by-halves; reach = reach-by-halves }
+request3 = record { search = search-by_halves; reach = reach-by_halves }
 
 request4 : Request4
-request4 = record { occupancy = occupancy-by-words; oldVerdicts = old-verdicts-kept; longestVerdict = verdict-round-trip.longest; met = verdict-round-trip.met; longestStep = step-round-trip.longest }
+request4 = record { occupancy = occupancy-by_words; old_verdicts = old_verdicts-kept; longest_verdict = verdict-round_trip.longest; met = verdict-round_trip.met; longest_step = step-round_trip.longest }
 
 request5 : Request5
 request5 = record { lines = cut; whole = listing.whole }
 
 request6 : Request6
 request6 = record {
-  readsWritten = images.reads-written;
-  writesRead = images.writes-read;
-  besideRefusal = images.beside-refusal;
+  reads_written = images.reads_written_lem;
+  writes_read = images.writes_read_lem;
+  beside_refusal = images.beside_refusal_lem;
   sound = images.read-sound;
   unsound = write-unsound;
-  roundTrip = image-round-trip;
-  form = image-form;
-  longest = image-round-trip.longest;
+  round_trip = image_round_trip;
+  form = image_form;
+  longest = image_round_trip.longest;
   collects = images.collects;
   keeps = images.keeps;
-  afterLoad = after-load;
-  unknown = unknown-history;
+  after_load = after_load_lem;
+  unknown = unknown_history;
 }
 
 request12 : Request12
 request12 = record {
   whole = logs.whole;
   torn = logs.torn;
-  checked = log-checked;
-  refusedImage = logs.refused-image;
-  readImage = logs.read-image;
-  savedImage = logs.saved-image;
+  checked = log_checked;
+  refused_image = logs.refused_image_lem;
+  read_image = logs.read_image_lem;
+  saved_image = logs.saved_image_lem;
 }
 
 request13 : Request13
 request13 = record {
   compactions = compactions;
-  compactionsOnLedger = compactions-on-ledger;
-  compactionsOnward = compactions-from;
-  compactionsByHistory = compactions-of;
+  compactions_on_ledger = compactions_on_ledger_lem;
+  compactions_onward = compactions-from;
+  compactions_by_history = compactions_of;
   strikes = strikes;
-  verdictsKept = verdicts-kept;
-  ledgerKept = ledger-kept;
-  strikable = strikable-on-ledger;
-  strikesOnBytes = strikes-on-bytes;
+  verdicts_kept = verdicts_kept_lem;
+  ledger_kept = ledger_kept_lem;
+  strikable = strikable_on_ledger;
+  strikes_on_bytes = strikes_on_bytes_lem;
 }
 
-as-numbers : AsNumbers
-as-numbers = record { exact = numbers-exact; refusedStep = refused-step; refusedSale = refused-sale; unsoundRun = unsound-run }
+as_numbers_lem : AsNumbers
+as_numbers_lem = record { exact = numbers-exact; refused_step = refused_step_lem; refused_sale = refused_sale_lem; unsound_run = unsound_run_lem }
 
 pub guarantees : Guarantees
 guarantees = record {
@@ -171,5 +171,5 @@ guarantees = record {
   request6 = request6;
   request12 = request12;
   request13 = request13;
-  asNumbers = as-numbers;
+  as_numbers = as_numbers_lem;
 }

@@ -1,10 +1,10 @@
 // The holds of a ledger (a hold is a snapshot in source document 000): at most eight, packed in rising number.
 ghost use Rattle.std.specs.Prelude.{◌≡◌, true, [], map, ◌≤◌, ◌<◌};
 ghost use Rattle.rules.specs.Limits.{limits};
-ghost use Rattle.rules.specs.Lists.{keep, all, risingAbove};
+ghost use Rattle.rules.specs.Lists.{keep, all, rising_above};
 ghost use Rattle.rules.specs.Words.{live};
-ghost use Rattle.rules.specs.Step.{insertHold, renewed, other};
-ghost use Rattle.holds.specs.Holds.{holds_of, layHolds, isNoHold, isLaid, hasNumber, namesManifest, manifestBy, numbers};
+ghost use Rattle.rules.specs.Step.{insert_hold, renewed, other};
+ghost use Rattle.holds.specs.Holds.{holds_of, lay_holds, is_no_hold, is_laid, has_number, names_manifest, manifest_by, numbers};
 
 use rules::{HOLDS, Hold};
 
@@ -28,7 +28,7 @@ fn is_live(time: u64, hold: Hold) -> bool
 
 // A place that is all zero.
 fn is_no_hold(hold: Hold) -> bool
-    ensures { result ≡ isNoHold hold }
+    ensures { result ≡ is_no_hold hold }
 {
     if hold.number != 0 {
         return false;
@@ -55,7 +55,7 @@ fn with_expiry(hold: Hold, number: u64, expiry: u64) -> Hold
 
 impl Holds {
     pub fn none() -> Self
-        ensures { result ≡ layHolds [] }
+        ensures { result ≡ lay_holds [] }
     {
         let zero = Hold {
             number: 0,
@@ -68,7 +68,7 @@ impl Holds {
 
     // Whether the places behind the holds are all zero, of any value.
     pub fn is_laid(self) -> bool
-        ensures { result ≡ isLaid self }
+        ensures { result ≡ is_laid self }
     {
         let mut i = self.count;
         if HOLDS < i {
@@ -87,7 +87,7 @@ impl Holds {
     // Whether the numbers rise strictly and are not 0.
     pub fn is_rising(self) -> bool
         requires { self.count ≤ limits.holds }
-        ensures { result ≡ risingAbove 0 (numbers (holds_of self)) }
+        ensures { result ≡ rising_above 0 (numbers (holds_of self)) }
     {
         let count = self.count;
         let mut last: u64 = 0;
@@ -124,7 +124,7 @@ impl Holds {
     // Whether a hold has this number.
     pub fn has_number(self, number: u64) -> bool
         requires { self.count ≤ limits.holds }
-        ensures { result ≡ hasNumber (holds_of self) number }
+        ensures { result ≡ has_number (holds_of self) number }
     {
         let count = self.count;
         let mut i: usize = 0;
@@ -141,7 +141,7 @@ impl Holds {
     // Whether a hold names this manifest.
     pub fn names_manifest(self, manifest: u64) -> bool
         requires { self.count ≤ limits.holds }
-        ensures { result ≡ namesManifest (holds_of self) manifest }
+        ensures { result ≡ names_manifest (holds_of self) manifest }
     {
         let count = self.count;
         let mut i: usize = 0;
@@ -158,7 +158,7 @@ impl Holds {
     // The manifest that the hold of this number names, 0 where there is none.
     pub fn manifest_by(self, number: u64) -> u64
         requires { self.count ≤ limits.holds }
-        ensures { result ≡ manifestBy (holds_of self) number }
+        ensures { result ≡ manifest_by (holds_of self) number }
     {
         let count = self.count;
         let mut i: usize = 0;
@@ -175,7 +175,7 @@ impl Holds {
     // The holds that are live at the time.
     pub fn live(self, time: u64) -> Self
         requires { self.count ≤ limits.holds }
-        ensures { result ≡ layHolds (keep (live time) (holds_of self)) }
+        ensures { result ≡ lay_holds (keep (live time) (holds_of self)) }
     {
         let mut next = Holds::none();
         let count = self.count;
@@ -198,7 +198,7 @@ impl Holds {
     // The holds but the one of this number.
     pub fn release(self, number: u64) -> Self
         requires { self.count ≤ limits.holds }
-        ensures { result ≡ layHolds (keep (other number) (holds_of self)) }
+        ensures { result ≡ lay_holds (keep (other number) (holds_of self)) }
     {
         let mut next = Holds::none();
         let count = self.count;
@@ -221,7 +221,7 @@ impl Holds {
     // The holds, with a new expiry for the one of this number.
     pub fn renew(self, number: u64, expiry: u64) -> Self
         requires { self.count ≤ limits.holds }
-        ensures { result ≡ layHolds (map (renewed number expiry) (holds_of self)) }
+        ensures { result ≡ lay_holds (map (renewed number expiry) (holds_of self)) }
     {
         let mut next = Holds::none();
         let count = self.count;
@@ -239,8 +239,8 @@ impl Holds {
 
     // The holds with one more, in rising number: at each place the smaller stays and the larger goes on.
     pub fn insert(self, hold: Hold) -> Self
-        requires { (isLaid self ≡ true) × (self.count < limits.holds) × (risingAbove 0 (numbers (holds_of self)) ≡ true) }
-        ensures { result ≡ layHolds (insertHold hold (holds_of self)) }
+        requires { (is_laid self ≡ true) × (self.count < limits.holds) × (rising_above 0 (numbers (holds_of self)) ≡ true) }
+        ensures { result ≡ lay_holds (insert_hold hold (holds_of self)) }
     {
         let count = self.count;
         let mut items = self.items;

@@ -3,5 +3,5 @@ use Rattle.image.specs.Form.{ImageForm}
 use Rattle.image.proofs.ReadsWritten.{formed}
 use Rattle.image.proofs.WritesRead.{refuses}
 
-pub image-form : ImageForm
-image-form = record { formed = formed; refuses = refuses }
+pub image_form : ImageForm
+image_form = record { formed = formed; refuses = refuses }

@@ -10,9 +10,9 @@ use Rattle.records.proofs.Pieces.{behind, over-all, length_over}
 use Rattle.image.specs.Code.{Put}
 
 -- bytes behind others, in what is lent from there to the end
-pub over-more : (p x out now ys : List ℕ) (a : ℕ) → now ≡ over p out → a ≡ length p → ys ≡ over x (take (length now - a) (drop a now))
+pub over_more : (p x out now ys : List ℕ) (a : ℕ) → now ≡ over p out → a ≡ length p → ys ≡ over x (take (length now - a) (drop a now))
     → take a now ++ (ys ++ drop (length now - a) (drop a now)) ≡ over (p ++ x) out
-over-more p x out now ys a e h put =
+over_more p x out now ys a e h put =
     let front : take a now ≡ p = ap (take a) e ∙ take_at p (drop (length p) out) a (sym h) in
     let rest : drop a now ≡ drop (length p) out = ap (drop a) e ∙ drop_at p (drop (length p) out) a (sym h) in
     let all : take (length now - a) (drop a now) ≡ drop a now = take_all (length now - a) (drop a now) (omega (arith, length-drop a now)) in
@@ -34,32 +34,32 @@ pub record Lies (out p now : List ℕ) (k : ℕ) : Type 0 where
   pub count : length p ≡ k
   pub room : k ≤ length out
 
-pub lies-front : (out x ys : List ℕ) (k : ℕ) → ys ≡ x → length x ≡ k → k ≤ length out → Lies out x (ys ++ drop k out) k
-lies-front out x ys k e h room = record { same = ap (λ (b : List ℕ). b ++ drop k out) e ∙ ap (λ (j : ℕ). x ++ drop j out) (sym h); count = h; room = room }
+pub lies_front : (out x ys : List ℕ) (k : ℕ) → ys ≡ x → length x ≡ k → k ≤ length out → Lies out x (ys ++ drop k out) k
+lies_front out x ys k e h room = record { same = ap (λ (b : List ℕ). b ++ drop k out) e ∙ ap (λ (j : ℕ). x ++ drop j out) (sym h); count = h; room = room }
 
 module _ {out p now : List ℕ} {k : ℕ} (l : Lies out p now k) where
-  pub lies-long : length now ≡ length out
-  lies-long = ap length l.same ∙ length_over p out (omega (arith, l.count, l.room))
+  pub lies_long : length now ≡ length out
+  lies_long = ap length l.same ∙ length_over p out (omega (arith, l.count, l.room))
 
   -- a part of j bytes that is filled
-  pub lies-part : {x ys : List ℕ} (j : ℕ) → ys ≡ x → length x ≡ j → k + j ≤ length out → Lies out (p ++ x) (take k now ++ (ys ++ drop j (drop k now))) (k + j)
-  lies-part {x} {ys} j e h room = record {
+  pub lies_part : {x ys : List ℕ} (j : ℕ) → ys ≡ x → length x ≡ j → k + j ≤ length out → Lies out (p ++ x) (take k now ++ (ys ++ drop j (drop k now))) (k + j)
+  lies_part {x} {ys} j e h room = record {
     same = ap (λ (o : List ℕ). take k o ++ (ys ++ drop j (drop k o))) l.same ∙ ap (λ (b : List ℕ). take k (over p out) ++ (b ++ drop j (drop k (over p out)))) e ∙ behind k j p x out l.count h room;
     count = length-append p x ∙ omega (arith, l.count, h);
     room = room;
   }
 
   -- all that is left is lent, and the front of it is laid over
-  pub lies-left : length (take (length now - k) (drop k now)) ≡ length out - k
-  lies-left = rest-room p out now k l.same (sym l.count) (omega (arith, l.count, l.room)) ∙ omega (arith, l.count)
+  pub lies_left : length (take (length now - k) (drop k now)) ≡ length out - k
+  lies_left = rest-room p out now k l.same (sym l.count) (omega (arith, l.count, l.room)) ∙ omega (arith, l.count)
 
-  pub lies-rest : {x ys : List ℕ} {n : ℕ} → Put x (take (length now - k) (drop k now)) ys n → k + length x ≤ length out
+  pub lies_rest : {x ys : List ℕ} {n : ℕ} → Put x (take (length now - k) (drop k now)) ys n → k + length x ≤ length out
       → Lies out (p ++ x) (take k now ++ (ys ++ drop (length now - k) (drop k now))) (k + n)
-  lies-rest {x} {ys} {n} put room = record {
-    same = over-more p x out now ys k l.same (sym l.count) put.laid;
+  lies_rest {x} {ys} {n} put room = record {
+    same = over_more p x out now ys k l.same (sym l.count) put.laid;
     count = length-append p x ∙ omega (arith, l.count, put.count);
     room = omega (arith, put.count, room);
   }
 
-  pub lies-all : length out ≡ k → now ≡ p
-  lies-all e = l.same ∙ over-all p out (omega (arith, l.count, e))
+  pub lies_all : length out ≡ k → now ≡ p
+  lies_all e = l.same ∙ over-all p out (omega (arith, l.count, e))

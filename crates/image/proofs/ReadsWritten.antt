@@ -15,15 +15,15 @@ use Rattle.fields.proofs.Fields.{length-field, claimed-field}
 use Rattle.rules.specs.declared.Object.{Object}
 use Rattle.rules.specs.declared.Hold.{Hold}
 use Rattle.rules.specs.Lists.{◌∈◌, all}
-use Rattle.rules.specs.Limits.{limits, manifestLimit, wordBits, wordCount}
+use Rattle.rules.specs.Limits.{limits, manifest_limit, word_bits, word_count}
 use Rattle.rules.specs.State.{Manifest, State, occupied, kept}
 use Rattle.rules.specs.Sound.{sound}
 use Rattle.rules.proofs.Lists.{and_both, true-conj}
 use Rattle.rules.proofs.Shape.{Shape, shape_of}
-use Rattle.rules.proofs.Bounds.{nine-enough}
+use Rattle.rules.proofs.Bounds.{nine_enough}
 use Rattle.objects.specs.Occupancy.{words_of}
-use Rattle.manifests.specs.Manifests.{layManifests}
-use Rattle.holds.specs.Holds.{layHolds}
+use Rattle.manifests.specs.Manifests.{lay_manifests}
+use Rattle.holds.specs.Holds.{lay_holds}
 use Rattle.records.specs.Found.{is_whole}
 use Rattle.records.proofs.WalkLaws.{behind-head}
 use Rattle.records.proofs.RoundTripRecords.{all-below}
@@ -31,24 +31,24 @@ use Rattle.ledger.specs.Ledger.{lay}
 use Rattle.ledger.proofs.SoundLaw.{lay-sound}
 use Rattle.image.specs.declared.Spot.{Spot}
 use Rattle.image.specs.declared.Reading.TheVariants.{Read, Unsound, Malformed}
-use Rattle.image.specs.Rows.{Cells, Row, Rows, row_of, rowAt, bytesFrom, total}
+use Rattle.image.specs.Rows.{Cells, Row, Rows, row_of, row_at, bytes_from, total}
 use Rattle.image.specs.Fit.{fits}
-use Rattle.image.specs.Format.{editionRow, clockRow, collectedRow, edition, single, objectRow, objectCells, manifestRow, manifestCells, manifestFrom, holdRow, holdCells, holdFrom}
-use Rattle.image.specs.Image.{imageTag, headBytes, placeBytes, manifestBytes, holdBytes, image_of}
-use Rattle.image.specs.Reading.{placeAt, manifestAt, holdAt, places_of, keptOf, holds_of, clockAt, collectedAt, rowsBegin, isHeaded, keptBegin, holdsBegin, rowsEnd, ledgerIn, objectsOf, soundOr, refused, read_of}
-use Rattle.image.specs.Form.{Said, spotBytes, content as contentSaid, bytes_of, ledgerSaid, InForm}
+use Rattle.image.specs.Format.{edition_row, clock_row, collected_row, edition, single, object_row, object_cells, manifest_row, manifest_cells, manifest_from, hold_row, hold_cells, hold_from}
+use Rattle.image.specs.Image.{image_tag, head_bytes, place_bytes, manifest_bytes, hold_bytes, image_of}
+use Rattle.image.specs.Reading.{place_at, manifest_at, hold_at, places_of, kept_of, holds_of, clock_at, collected_at, rows_begin, is_headed, kept_begin, holds_begin, rows_end, ledger_in, objects_of, sound_or, refused, read_of}
+use Rattle.image.specs.Form.{Said, spot_bytes, content as content_said, bytes_of, ledger_said, InForm}
 use Rattle.image.specs.RoundTrip.{Fits}
-use Rattle.image.proofs.RowLaws.{CellsFit, row-there, row_other, length-row}
-use Rattle.image.proofs.Walks.{Each, rows-there}
+use Rattle.image.proofs.RowLaws.{CellsFit, row_there, row_other, length-row}
+use Rattle.image.proofs.Walks.{Each, rows_there}
 use Rattle.image.proofs.Spots.{places-each}
-use Rattle.image.proofs.Lengths.{length-head-rows, spots-bound, manifests-bound, length-holds, length-parts}
-use Rattle.image.proofs.Heads.{is-image}
+use Rattle.image.proofs.Lengths.{length-head-rows, spots_bound, manifests_bound, length-holds, length_parts}
+use Rattle.image.proofs.Heads.{is_image_lem}
 
 -- ---- a row of one number
 
-single-fit : (tag w n : ℕ) → leb w 8 ≡ true → n < 256 ^ w → CellsFit (record { tag = tag; widths = w ∷ []; names = 0 }) (single n)
+single_fit : (tag w n : ℕ) → leb w 8 ≡ true → n < 256 ^ w → CellsFit (record { tag = tag; widths = w ∷ []; names = 0 }) (single n)
 unfolding fits total all
-single-fit tag w n short h = record {
+single_fit tag w n short h = record {
   narrow = and_both (leb w 8) true short refl;
   numbers = and_both (ltb n (256 ^ w)) true (lt-ltb n (256 ^ w) h) refl;
   names = λ i. lit< tt;
@@ -58,98 +58,98 @@ single-fit tag w n short h = record {
 
 -- ---- manifests and holds
 
-manifests-each : (p : ℕ) (ms : List Manifest) (r : List ℕ) → ((m : Manifest) → m ∈ ms → CellsFit manifestRow (manifestCells m)) → Each manifestBytes manifestAt p ms r
-unfolding Each manifestBytes
+manifests-each : (p : ℕ) (ms : List Manifest) (r : List ℕ) → ((m : Manifest) → m ∈ ms → CellsFit manifest_row (manifest_cells m)) → Each manifest_bytes manifest_at p ms r
+unfolding Each manifest_bytes
 manifests-each p [] r fit = tt
 manifests-each p (m ∷ ms) r fit =
-    let e = row-there manifestRow (manifestCells m) (bytesFrom manifestBytes (suc p) ms ++ r) (fit m (Memᴰ.head refl)) in
-    ((λ i. record { found = (e i).found; size = (e i).size; value = manifestFrom (e i).value }), manifests-each (suc p) ms r (λ x k. fit x (Memᴰ.tail k)))
+    let e = row_there manifest_row (manifest_cells m) (bytes_from manifest_bytes (suc p) ms ++ r) (fit m (Memᴰ.head refl)) in
+    ((λ i. record { found = (e i).found; size = (e i).size; value = manifest_from (e i).value }), manifests-each (suc p) ms r (λ x k. fit x (Memᴰ.tail k)))
 
-holds-each : (p : ℕ) (xs : List Hold) (r : List ℕ) → ((x : Hold) → x ∈ xs → CellsFit holdRow (holdCells x)) → Each holdBytes holdAt p xs r
-unfolding Each holdBytes
+holds-each : (p : ℕ) (xs : List Hold) (r : List ℕ) → ((x : Hold) → x ∈ xs → CellsFit hold_row (hold_cells x)) → Each hold_bytes hold_at p xs r
+unfolding Each hold_bytes
 holds-each p [] r fit = tt
 holds-each p (x ∷ xs) r fit =
-    let e = row-there holdRow (holdCells x) (bytesFrom holdBytes (suc p) xs ++ r) (fit x (Memᴰ.head refl)) in
-    ((λ i. record { found = (e i).found; size = (e i).size; value = holdFrom (e i).value.numbers }), holds-each (suc p) xs r (λ y k. fit y (Memᴰ.tail k)))
+    let e = row_there hold_row (hold_cells x) (bytes_from hold_bytes (suc p) xs ++ r) (fit x (Memᴰ.head refl)) in
+    ((λ i. record { found = (e i).found; size = (e i).size; value = hold_from (e i).value.numbers }), holds-each (suc p) xs r (λ y k. fit y (Memᴰ.tail k)))
 
 -- what a group of rows begins with
-holds-begin : (p : ℕ) (xs : List Hold) → get_or (bytesFrom holdBytes p xs) 0 0 ≡ 0x65 → ⊥
-unfolding bytesFrom holdBytes
-holds-begin p [] e = omega (arith, e)
-holds-begin p (x ∷ xs) e = omega (arith, e)
+holds_begin_lem : (p : ℕ) (xs : List Hold) → get_or (bytes_from hold_bytes p xs) 0 0 ≡ 0x65 → ⊥
+unfolding bytes_from hold_bytes
+holds_begin_lem p [] e = omega (arith, e)
+holds_begin_lem p (x ∷ xs) e = omega (arith, e)
 
-later-begin : (p q : ℕ) (ms : List Manifest) (xs : List Hold) → get_or (bytesFrom manifestBytes p ms ++ bytesFrom holdBytes q xs) 0 0 ≡ 0x64 → ⊥
-unfolding bytesFrom manifestBytes holdBytes
-later-begin p q [] [] e = omega (arith, e)
-later-begin p q [] (x ∷ xs) e = omega (arith, e)
-later-begin p q (m ∷ ms) xs e = omega (arith, e)
+later_begin : (p q : ℕ) (ms : List Manifest) (xs : List Hold) → get_or (bytes_from manifest_bytes p ms ++ bytes_from hold_bytes q xs) 0 0 ≡ 0x64 → ⊥
+unfolding bytes_from manifest_bytes hold_bytes
+later_begin p q [] [] e = omega (arith, e)
+later_begin p q [] (x ∷ xs) e = omega (arith, e)
+later_begin p q (m ∷ ms) xs e = omega (arith, e)
 
 -- ---- bytes in the form of an image
 
 module _ (s : Said) (fit : InForm s) where
   abbrev P : List ℕ
-  P = bytesFrom spotBytes 0 s.spots
+  P = bytes_from spot_bytes 0 s.spots
 
   abbrev M : List ℕ
-  M = bytesFrom manifestBytes 0 s.manifests
+  M = bytes_from manifest_bytes 0 s.manifests
 
   abbrev X : List ℕ
-  X = bytesFrom holdBytes 0 s.holds
+  X = bytes_from hold_bytes 0 s.holds
 
   abbrev r1 : List ℕ
-  r1 = row_of editionRow (single edition)
+  r1 = row_of edition_row (single edition)
 
   abbrev r2 : List ℕ
-  r2 = row_of clockRow (single s.clock)
+  r2 = row_of clock_row (single s.clock)
 
   abbrev r3 : List ℕ
-  r3 = row_of collectedRow (single s.collected)
+  r3 = row_of collected_row (single s.collected)
 
   abbrev rest : List ℕ
   rest = P ++ (M ++ X)
 
   abbrev content : List ℕ
-  content = contentSaid s
+  content = content_said s
 
   -- the rows of one number
-  edition-there : rowAt editionRow content ≡ record { found = true; size = length r1; value = single edition }
-  edition-there = ap (rowAt editionRow) (append_assoc r1 (r2 ++ r3) rest) ∙ row-there editionRow (single edition) ((r2 ++ r3) ++ rest) (single-fit 0x61 1 edition refl (lit< tt))
+  edition_there : row_at edition_row content ≡ record { found = true; size = length r1; value = single edition }
+  edition_there = ap (row_at edition_row) (append_assoc r1 (r2 ++ r3) rest) ∙ row_there edition_row (single edition) ((r2 ++ r3) ++ rest) (single_fit 0x61 1 edition refl (lit< tt))
 
-  behind-first : drop clockAt content ≡ r2 ++ (r3 ++ rest)
+  behind-first : drop clock_at content ≡ r2 ++ (r3 ++ rest)
   unfolding total
   behind-first =
-      ap (drop clockAt) (append_assoc r1 (r2 ++ r3) rest) ∙ drop_at r1 ((r2 ++ r3) ++ rest) clockAt (length-row editionRow (single edition) refl) ∙ append_assoc r2 r3 rest
+      ap (drop clock_at) (append_assoc r1 (r2 ++ r3) rest) ∙ drop_at r1 ((r2 ++ r3) ++ rest) clock_at (length-row edition_row (single edition) refl) ∙ append_assoc r2 r3 rest
 
-  behind-second : drop collectedAt content ≡ r3 ++ rest
+  behind-second : drop collected_at content ≡ r3 ++ rest
   unfolding total
-  behind-second = sym (drop-drop 11 clockAt content) ∙ ap (drop 11) behind-first ∙ drop_at r2 (r3 ++ rest) 11 (length-row clockRow (single s.clock) refl)
+  behind-second = sym (drop-drop 11 clock_at content) ∙ ap (drop 11) behind-first ∙ drop_at r2 (r3 ++ rest) 11 (length-row clock_row (single s.clock) refl)
 
-  behind-head-rows : drop rowsBegin content ≡ rest
-  behind-head-rows = drop_at (headBytes s.clock s.collected) rest rowsBegin (length-head-rows s.clock s.collected)
+  behind-head-rows : drop rows_begin content ≡ rest
+  behind-head-rows = drop_at (head_bytes s.clock s.collected) rest rows_begin (length-head-rows s.clock s.collected)
 
-  clock-there : rowAt clockRow (drop clockAt content) ≡ record { found = true; size = length r2; value = single s.clock }
-  clock-there = ap (rowAt clockRow) behind-first ∙ row-there clockRow (single s.clock) (r3 ++ rest) (single-fit 0x62 8 s.clock refl fit.clock)
+  clock_there : row_at clock_row (drop clock_at content) ≡ record { found = true; size = length r2; value = single s.clock }
+  clock_there = ap (row_at clock_row) behind-first ∙ row_there clock_row (single s.clock) (r3 ++ rest) (single_fit 0x62 8 s.clock refl fit.clock)
 
-  collected-there : rowAt collectedRow (drop collectedAt content) ≡ record { found = true; size = length r3; value = single s.collected }
-  collected-there = ap (rowAt collectedRow) behind-second ∙ row-there collectedRow (single s.collected) rest (single-fit 0x63 8 s.collected refl fit.collected)
+  collected_there : row_at collected_row (drop collected_at content) ≡ record { found = true; size = length r3; value = single s.collected }
+  collected_there = ap (row_at collected_row) behind-second ∙ row_there collected_row (single s.collected) rest (single_fit 0x63 8 s.collected refl fit.collected)
 
-  headed : isHeaded content ≡ true
+  headed : is_headed content ≡ true
   headed = true-conj _ (
-    ap (λ (r : Row Cells). r.found) edition-there,
-    (eq-eqb _ edition (ap (λ (r : Row Cells). get_or r.value.numbers 0 0) edition-there), (ap (λ (r : Row Cells). r.found) clock-there, (ap (λ (r : Row Cells). r.found) collected-there, tt))),
+    ap (λ (r : Row Cells). r.found) edition_there,
+    (eq-eqb _ edition (ap (λ (r : Row Cells). get_or r.value.numbers 0 0) edition_there), (ap (λ (r : Row Cells). r.found) clock_there, (ap (λ (r : Row Cells). r.found) collected_there, tt))),
   )
 
   -- the places
-  places-there : places_of rest ≡ record { values = s.spots; size = length P }
-  places-there =
-      rows-there spotBytes placeAt limits.places 0 s.spots (M ++ X) (omega (arith, fit.places))
-      (places-each 0 s.spots (M ++ X) (omega (arith, fit.places)) (λ x i. record { clear = fit.clear x i; fit = fit.objects x i }) (later-begin 0 0 s.manifests s.holds)) (inl fit.places)
+  places_there : places_of rest ≡ record { values = s.spots; size = length P }
+  places_there =
+      rows_there spot_bytes place_at limits.places 0 s.spots (M ++ X) (omega (arith, fit.places))
+      (places-each 0 s.spots (M ++ X) (omega (arith, fit.places)) (λ x i. record { clear = fit.clear x i; fit = fit.objects x i }) (later_begin 0 0 s.manifests s.holds)) (inl fit.places)
 
   -- the manifests
-  kept_there : keptOf (M ++ X) ≡ record { values = s.manifests; size = length M }
+  kept_there : kept_of (M ++ X) ≡ record { values = s.manifests; size = length M }
   unfolding total all
   kept_there =
-      rows-there manifestBytes manifestAt (manifestLimit limits) 0 s.manifests X fit.keeps
+      rows_there manifest_bytes manifest_at (manifest_limit limits) 0 s.manifests X fit.keeps
       (manifests-each 0 s.manifests X (λ m i. record {
         narrow = refl;
         numbers = fit.manifests m i;
@@ -157,14 +157,14 @@ module _ (s : Said) (fit : InForm s) where
         few = fit.short m i;
         short = lit< tt;
       }))
-      (inr (λ q. ap (λ (r : Row Cells). r.found) (row_other manifestRow X (holds-begin 0 s.holds))))
+      (inr (λ q. ap (λ (r : Row Cells). r.found) (row_other manifest_row X (holds_begin_lem 0 s.holds))))
 
   -- the holds
-  holds-there : holds_of X ≡ record { values = s.holds; size = length X }
+  holds_there : holds_of X ≡ record { values = s.holds; size = length X }
   unfolding total all
-  holds-there =
+  holds_there =
       ap holds_of (sym (append-nil X))
-      ∙ rows-there holdBytes holdAt limits.holds 0 s.holds [] fit.few
+      ∙ rows_there hold_bytes hold_at limits.holds 0 s.holds [] fit.few
       (holds-each 0 s.holds [] (λ x i. record {
         narrow = refl;
         numbers = fit.holds x i;
@@ -172,75 +172,75 @@ module _ (s : Said) (fit : InForm s) where
         few = omega arith;
         short = lit< tt;
       }))
-      (inr (λ q. ap (λ (r : Row Cells). r.found) (row_other holdRow [] (λ e. omega (arith, e)))))
+      (inr (λ q. ap (λ (r : Row Cells). r.found) (row_other hold_row [] (λ e. omega (arith, e)))))
 
   -- where each group begins
-  places-read : places_of (drop rowsBegin content) ≡ record { values = s.spots; size = length P }
-  places-read = ap places_of behind-head-rows ∙ places-there
+  places-read : places_of (drop rows_begin content) ≡ record { values = s.spots; size = length P }
+  places-read = ap places_of behind-head-rows ∙ places_there
 
-  kept-begins : keptBegin content ≡ rowsBegin + length P
-  kept-begins = ap (λ (r : Rows Spot). rowsBegin + r.size) places-read
+  kept_begins : kept_begin content ≡ rows_begin + length P
+  kept_begins = ap (λ (r : Rows Spot). rows_begin + r.size) places-read
 
-  behind_places : drop (keptBegin content) content ≡ M ++ X
+  behind_places : drop (kept_begin content) content ≡ M ++ X
   behind_places =
-      ap (λ (n : ℕ). drop n content) kept-begins ∙ sym (drop-drop (length P) rowsBegin content) ∙ ap (drop (length P)) behind-head-rows ∙ drop_at P (M ++ X) (length P) refl
+      ap (λ (n : ℕ). drop n content) kept_begins ∙ sym (drop-drop (length P) rows_begin content) ∙ ap (drop (length P)) behind-head-rows ∙ drop_at P (M ++ X) (length P) refl
 
-  kept_read : keptOf (drop (keptBegin content) content) ≡ record { values = s.manifests; size = length M }
-  kept_read = ap keptOf behind_places ∙ kept_there
+  kept_read : kept_of (drop (kept_begin content) content) ≡ record { values = s.manifests; size = length M }
+  kept_read = ap kept_of behind_places ∙ kept_there
 
-  behind-kept : drop (holdsBegin content) content ≡ X
+  behind-kept : drop (holds_begin content) content ≡ X
   behind-kept =
-      ap (λ (r : Rows Manifest). drop (keptBegin content + r.size) content) kept_read ∙ sym (drop-drop (length M) (keptBegin content) content)
+      ap (λ (r : Rows Manifest). drop (kept_begin content + r.size) content) kept_read ∙ sym (drop-drop (length M) (kept_begin content) content)
       ∙ ap (drop (length M)) behind_places ∙ drop_at M X (length M) refl
 
-  holds_read : holds_of (drop (holdsBegin content) content) ≡ record { values = s.holds; size = length X }
-  holds_read = ap holds_of behind-kept ∙ holds-there
+  holds_read_lem : holds_of (drop (holds_begin content) content) ≡ record { values = s.holds; size = length X }
+  holds_read_lem = ap holds_of behind-kept ∙ holds_there
 
   size : length content ≡ 26 + length P + length M + length X
-  size = length-parts s.clock s.collected P M X
+  size = length_parts s.clock s.collected P M X
 
-  ends : rowsEnd content ≡ length content
-  ends = omega (arith, kept-begins, ap (λ (r : Rows Manifest). r.size) kept_read, ap (λ (r : Rows Hold). r.size) holds_read, size)
+  ends : rows_end content ≡ length content
+  ends = omega (arith, kept_begins, ap (λ (r : Rows Manifest). r.size) kept_read, ap (λ (r : Rows Hold). r.size) holds_read_lem, size)
 
-  said : ledgerIn content ≡ ledgerSaid s
-  unfolding ledgerIn
+  said : ledger_in content ≡ ledger_said s
+  unfolding ledger_in
   said = λ i. record {
-    clock = ap (λ (r : Row Cells). get_or r.value.numbers 0 0) clock-there i;
-    collected = ap (λ (r : Row Cells). get_or r.value.numbers 0 0) collected-there i;
-    objects = objectsOf (places-read i).values;
-    manifests = layManifests (kept_read i).values;
-    holds = layHolds (holds_read i).values;
+    clock = ap (λ (r : Row Cells). get_or r.value.numbers 0 0) clock_there i;
+    collected = ap (λ (r : Row Cells). get_or r.value.numbers 0 0) collected_there i;
+    objects = objects_of (places-read i).values;
+    manifests = lay_manifests (kept_read i).values;
+    holds = lay_holds (holds_read_lem i).values;
   }
 
   -- ---- whole
 
   short : length content < 65536
-  short = omega (arith, size, spots-bound 0 s.spots, fit.places, manifests-bound 0 s.manifests fit.short, fit.keeps, length-holds 0 s.holds, fit.few)
+  short = omega (arith, size, spots_bound 0 s.spots, fit.places, manifests_bound 0 s.manifests fit.short, fit.keeps, length-holds 0 s.holds, fit.few)
 
   behind : drop 3 (bytes_of s) ≡ content
-  behind = simp append-nil at (behind-head imageTag content [])
+  behind = simp append-nil at (behind-head image_tag content [])
 
   whole : is_whole (bytes_of s) ≡ true
   whole =
-      and_both _ _ (le-leb 3 (length (bytes_of s)) (omega (arith, length-field imageTag content)))
-      (eq-eqb _ _ (rw append-nil at (claimed-field imageTag content [] short) ∙ omega (arith, length-field imageTag content)))
+      and_both _ _ (le-leb 3 (length (bytes_of s)) (omega (arith, length-field image_tag content)))
+      (eq-eqb _ _ (rw append-nil at (claimed-field image_tag content [] short) ∙ omega (arith, length-field image_tag content)))
 
-  pub formed : read_of (bytes_of s) ≡ soundOr (ledgerSaid s)
+  pub formed : read_of (bytes_of s) ≡ sound_or (ledger_said s)
   unfolding read_of
   formed =
-      ap (λ (b : Bool). cond b (soundOr (ledgerIn (drop 3 (bytes_of s)))) (refused Malformed))
-      (is-image (bytes_of s) whole refl (ap isHeaded behind ∙ headed) (ap (λ (c : List ℕ). eqb (rowsEnd c) (length c)) behind ∙ eq-eqb (rowsEnd content) (length content) ends))
-      ∙ ap soundOr (ap ledgerIn behind ∙ said)
+      ap (λ (b : Bool). cond b (sound_or (ledger_in (drop 3 (bytes_of s)))) (refused Malformed))
+      (is_image_lem (bytes_of s) whole refl (ap is_headed behind ∙ headed) (ap (λ (c : List ℕ). eqb (rows_end c) (length c)) behind ∙ eq-eqb (rows_end content) (length content) ends))
+      ∙ ap sound_or (ap ledger_in behind ∙ said)
 
 -- ---- the image of a sound ledger
 
 abbrev spot_of : Object → Spot
 spot_of o = record { taken = occupied o; object = o }
 
-spots-of : (p : ℕ) (os : List Object) → bytesFrom spotBytes p (map spot_of os) ≡ bytesFrom placeBytes p os
-unfolding bytesFrom placeBytes
-spots-of p [] = refl
-spots-of p (o ∷ os) = ap (spotBytes p (spot_of o) ++◌) (spots-of (suc p) os)
+spots_of : (p : ℕ) (os : List Object) → bytes_from spot_bytes p (map spot_of os) ≡ bytes_from place_bytes p os
+unfolding bytes_from place_bytes
+spots_of p [] = refl
+spots_of p (o ∷ os) = ap (spot_bytes p (spot_of o) ++◌) (spots_of (suc p) os)
 
 takens : (os : List Object) → map (λ (s : Spot). s.taken) (map spot_of os) ≡ map occupied os
 takens [] = refl
@@ -251,20 +251,20 @@ items [] = refl
 items (o ∷ os) = ap (λ l. o ∷ l) (items os)
 
 module _ (s : State) (good : sound limits s ≡ true) (fit : Fits s) where
-  abbrev saidBy : Said
-  saidBy = record { clock = s.clock; collected = s.highestCollected; spots = map spot_of s.places; manifests = kept s; holds = s.holds }
+  abbrev said_by : Said
+  said_by = record { clock = s.clock; collected = s.highest_collected; spots = map spot_of s.places; manifests = kept s; holds = s.holds }
 
   shape : Shape limits s
   shape = shape_of limits s good
 
-  in-form : InForm saidBy
-  in-form = record {
+  in_form : InForm said_by
+  in_form = record {
     clock = fit.clock;
     collected = fit.collected;
     places = length-map s.places spot_of ∙ shape.size;
     clear = λ x i z. let o = Memᴰ.of_map spot_of s.places i in ap (λ (y : Spot). y.object) (sym o.2) ∙ shape.unused o.0 o.1 (ap (λ (y : Spot). y.taken) o.2 ∙ z);
-    objects = λ x i. let o = Memᴰ.of_map spot_of s.places i in subst (λ (y : Spot). fits objectRow.widths (objectCells 0 y.object).numbers ≡ true) o.2 (fit.objects o.0 o.1);
-    keeps = omega (arith, length-append s.older (s.current ∷ []), nine-enough limits s good);
+    objects = λ x i. let o = Memᴰ.of_map spot_of s.places i in subst (λ (y : Spot). fits object_row.widths (object_cells 0 y.object).numbers ≡ true) o.2 (fit.objects o.0 o.1);
+    keeps = omega (arith, length-append s.older (s.current ∷ []), nine_enough limits s good);
     manifests = fit.manifests;
     short = shape.short;
     names = fit.names;
@@ -272,19 +272,19 @@ module _ (s : State) (good : sound limits s ≡ true) (fit : Fits s) where
     holds = fit.holds;
   }
 
-  image-is : bytes_of saidBy ≡ image_of s
+  image_is : bytes_of said_by ≡ image_of s
   unfolding image_of
-  image-is = ap (λ (p : List ℕ). field imageTag (headBytes s.clock s.highestCollected ++ (p ++ (bytesFrom manifestBytes 0 (kept s) ++ bytesFrom holdBytes 0 s.holds)))) (spots-of 0 s.places)
+  image_is = ap (λ (p : List ℕ). field image_tag (head_bytes s.clock s.highest_collected ++ (p ++ (bytes_from manifest_bytes 0 (kept s) ++ bytes_from hold_bytes 0 s.holds)))) (spots_of 0 s.places)
 
-  ledger-is : ledgerSaid saidBy ≡ lay s
-  ledger-is = λ i. record {
+  ledger_is : ledger_said said_by ≡ lay s
+  ledger_is = λ i. record {
     clock = s.clock;
-    collected = s.highestCollected;
-    objects = record { occupancy = words_of wordBits wordCount (takens s.places i); items = items s.places i };
-    manifests = layManifests (kept s);
-    holds = layHolds s.holds;
+    collected = s.highest_collected;
+    objects = record { occupancy = words_of word_bits word_count (takens s.places i); items = items s.places i };
+    manifests = lay_manifests (kept s);
+    holds = lay_holds s.holds;
   }
 
-  pub reads-written : read_of (image_of s) ≡ record { reading = Read; ledger = lay s }
-  reads-written =
-      ap read_of (sym image-is) ∙ formed saidBy in-form ∙ ap soundOr ledger-is ∙ ap (λ (b : Bool). cond b (record { reading = Read; ledger = lay s }) (refused Unsound)) (lay-sound s good)
+  pub reads_written_lem : read_of (image_of s) ≡ record { reading = Read; ledger = lay s }
+  reads_written_lem =
+      ap read_of (sym image_is) ∙ formed said_by in_form ∙ ap sound_or ledger_is ∙ ap (λ (b : Bool). cond b (record { reading = Read; ledger = lay s }) (refused Unsound)) (lay-sound s good)

@@ -15,15 +15,15 @@ use Rattle.fields.specs.declared.Head.{Head}
 use Rattle.fields.specs.declared.Head.TheVariants.{Holds, Bad}
 use Rattle.fields.specs.Bytes.{be, value_of, kept64, words, words_of}
 use Rattle.fields.specs.Fields.{field, head_of, over}
-use Rattle.fields.proofs.Bytes.{Below, below-take, below-drop, length-be, value-be-fits, be-value, value-below, kept, kept-value, length-words, length-wordsOf, wordsOf-words, wordsOf-below, words-wordsOf}
+use Rattle.fields.proofs.Bytes.{Below, below-take, below-drop, length-be, value-be-fits, be-value, value-below, kept, kept-value, length-words, length-words_of, words_of-words, words_of-below, words-words_of}
 use Rattle.fields.proofs.Fields.{head-other, head-field, head_read, field-head, length-field}
 use Rattle.records.proofs.Pieces.{behind, over-all, length-head, length_over}
 use Rattle.arrays.specs.Arrays.{pad}
 use Rattle.rules.specs.Lists.{all}
 use Rattle.rules.proofs.Lists.{and_left, and_right, and_both}
-use Rattle.image.specs.Rows.{Format, Cells, Row, bare, total, numbersOf, row_of, absent, hasForm, formedBy, rowHead, present, row_in, rowAt}
+use Rattle.image.specs.Rows.{Format, Cells, Row, bare, total, numbers_of, row_of, absent, has_form, formed_by, row_head, present, row_in, row_at}
 use Rattle.image.specs.Fit.{narrow, fits}
-use Rattle.image.proofs.Laying.{over-more}
+use Rattle.image.proofs.Laying.{over_more}
 
 -- ---- numbers in their widths
 
@@ -38,34 +38,34 @@ pub bare-from : (ws ns : List ℕ) (i : ℕ) → i < length ws → length ws ≡
 unfolding bare
 bare-from ws ns i h e = rw (add-one, drop-cons ws i 0 h, drop-cons ns i 0 (omega (arith, e, h)))
 
-pub bare-end : (ws ns : List ℕ) (i : ℕ) → length ws ≤ i → bare (drop i ws) ns ≡ []
+pub bare_end : (ws ns : List ℕ) (i : ℕ) → length ws ≤ i → bare (drop i ws) ns ≡ []
 unfolding bare
-bare-end ws ns i h = rw (drop_of_length-le ws h)
+bare_end ws ns i h = rw (drop_of_length-le ws h)
 
 pub total-from : (ws : List ℕ) (i : ℕ) → i < length ws → total (drop i ws) ≡ get_or ws i 0 + total (drop (i + 1) ws)
 unfolding total
 total-from ws i h = rw (add-one, drop-cons ws i 0 h)
 
-pub total-end : (ws : List ℕ) (i : ℕ) → length ws ≤ i → total (drop i ws) ≡ 0
+pub total_end : (ws : List ℕ) (i : ℕ) → length ws ≤ i → total (drop i ws) ≡ 0
 unfolding total
-total-end ws i h = rw (drop_of_length-le ws h)
+total_end ws i h = rw (drop_of_length-le ws h)
 
 pub numbers-from : (ws bs : List ℕ) (i : ℕ) → i < length ws
-    → numbersOf (drop i ws) bs ≡ kept64 (value_of (take (get_or ws i 0) bs)) ∷ numbersOf (drop (i + 1) ws) (drop (get_or ws i 0) bs)
-unfolding numbersOf
+    → numbers_of (drop i ws) bs ≡ kept64 (value_of (take (get_or ws i 0) bs)) ∷ numbers_of (drop (i + 1) ws) (drop (get_or ws i 0) bs)
+unfolding numbers_of
 numbers-from ws bs i h = rw (add-one, drop-cons ws i 0 h)
 
 -- the first of them, and then the others behind it
-pub numbers-at : (w : ℕ) (ws : List ℕ) (k : ℕ) (bs : List ℕ) → numbersOf (w ∷ ws) (drop k bs) ≡ kept64 (value_of (take w (drop k bs))) ∷ numbersOf ws (drop (k + w) bs)
-unfolding numbersOf
-numbers-at w ws k bs = ap (λ (l : List ℕ). kept64 (value_of (take w (drop k bs))) ∷ numbersOf ws l) (drop-drop w k bs)
+pub numbers_at_lem : (w : ℕ) (ws : List ℕ) (k : ℕ) (bs : List ℕ) → numbers_of (w ∷ ws) (drop k bs) ≡ kept64 (value_of (take w (drop k bs))) ∷ numbers_of ws (drop (k + w) bs)
+unfolding numbers_of
+numbers_at_lem w ws k bs = ap (λ (l : List ℕ). kept64 (value_of (take w (drop k bs))) ∷ numbers_of ws l) (drop-drop w k bs)
 
-pub numbers-end : (ws bs : List ℕ) (i : ℕ) → length ws ≤ i → numbersOf (drop i ws) bs ≡ []
-unfolding numbersOf
-numbers-end ws bs i h = rw (drop_of_length-le ws h)
+pub numbers_end : (ws bs : List ℕ) (i : ℕ) → length ws ≤ i → numbers_of (drop i ws) bs ≡ []
+unfolding numbers_of
+numbers_end ws bs i h = rw (drop_of_length-le ws h)
 
-pub length-numbers : (ws bs : List ℕ) → length (numbersOf ws bs) ≡ length ws
-unfolding numbersOf
+pub length-numbers : (ws bs : List ℕ) → length (numbers_of ws bs) ≡ length ws
+unfolding numbers_of
 length-numbers [] bs = refl
 length-numbers (w ∷ ws) bs = ap suc (length-numbers ws (drop w bs))
 
@@ -78,8 +78,8 @@ fits-length (w ∷ ws) (n ∷ ns) e = ap suc (fits-length ws ns (and_right (ltb 
 
 -- ---- reading undoes writing, and writing reading
 
-pub numbers-bare : (ws ns rest : List ℕ) → narrow ws ≡ true → fits ws ns ≡ true → numbersOf ws (bare ws ns ++ rest) ≡ ns
-unfolding numbersOf bare fits all
+pub numbers-bare : (ws ns rest : List ℕ) → narrow ws ≡ true → fits ws ns ≡ true → numbers_of ws (bare ws ns ++ rest) ≡ ns
+unfolding numbers_of bare fits all
 numbers-bare [] [] rest t e = refl
 numbers-bare [] (n ∷ ns) rest t e = absurd (false≢true e)
 numbers-bare (w ∷ ws) [] rest t e = absurd (false≢true e)
@@ -89,8 +89,8 @@ numbers-bare (w ∷ ws) (n ∷ ns) rest t e =
     let first : kept64 (value_of (be w n)) ≡ n = rw (value-be-fits w n small) (kept n (lt_of_lt_of_le small (pow-le-pow_right (lit< tt) {i = w} {j = 8} short))) in
     rw (append_assoc, take_at (be w n) (bare ws ns ++ rest) w (length-be w n), drop_at (be w n) (bare ws ns ++ rest) w (length-be w n), first, numbers-bare ws ns rest (and_right (leb w 8) (narrow ws) t) (and_right (ltb n (256 ^ w)) (fits ws ns) e))
 
-pub bare-numbers : (ws bs : List ℕ) → narrow ws ≡ true → Below 256 bs → total ws ≤ length bs → bare ws (numbersOf ws bs) ≡ take (total ws) bs
-unfolding numbersOf bare total all
+pub bare-numbers : (ws bs : List ℕ) → narrow ws ≡ true → Below 256 bs → total ws ≤ length bs → bare ws (numbers_of ws bs) ≡ take (total ws) bs
+unfolding numbers_of bare total all
 bare-numbers [] bs t h room = refl
 bare-numbers (w ∷ ws) bs t h room =
     let short = leb-true w 8 (and_left (leb w 8) (narrow ws) t) in
@@ -99,15 +99,15 @@ bare-numbers (w ∷ ws) bs t h room =
     let first : be w (value_of (take w bs)) ≡ take w bs = rw long at (be-value (take w bs) bytes) in
     rw (take-add w (total ws) bs, kept-value (take w bs) bytes (omega arith), first, bare-numbers ws (drop w bs) (and_right (leb w 8) (narrow ws) t) (below-drop 256 w bs h) (omega (arith, length-drop w bs)))
 
-pub fits-numbers : (ws bs : List ℕ) → narrow ws ≡ true → Below 256 bs → total ws ≤ length bs → fits ws (numbersOf ws bs) ≡ true
-unfolding numbersOf fits total all
+pub fits-numbers : (ws bs : List ℕ) → narrow ws ≡ true → Below 256 bs → total ws ≤ length bs → fits ws (numbers_of ws bs) ≡ true
+unfolding numbers_of fits total all
 fits-numbers [] bs t h room = refl
 fits-numbers (w ∷ ws) bs t h room =
     let short = leb-true w 8 (and_left (leb w 8) (narrow ws) t) in
     let long : length (take w bs) ≡ w = length-take-le w bs (omega arith) in
     let bytes = below-take 256 w bs h in
     let small : value_of (take w bs) < 256 ^ w = rw long at (value-below (take w bs) bytes) in
-    and_both (ltb (kept64 (value_of (take w bs))) (256 ^ w)) (fits ws (numbersOf ws (drop w bs)))
+    and_both (ltb (kept64 (value_of (take w bs))) (256 ^ w)) (fits ws (numbers_of ws (drop w bs)))
     (rw (kept-value (take w bs) bytes (omega arith)) (lt-ltb (value_of (take w bs)) (256 ^ w) small))
     (fits-numbers ws (drop w bs) (and_right (leb w 8) (narrow ws) t) (below-drop 256 w bs h) (omega (arith, length-drop w bs)))
 
@@ -118,31 +118,31 @@ abbrev is_held : Head → Bool
 is_held Bad = false
 is_held (Holds n) = true
 
-abbrev sizeHeld : Head → ℕ
-sizeHeld Bad = 0
-sizeHeld (Holds n) = n
+abbrev size_held : Head → ℕ
+size_held Bad = 0
+size_held (Holds n) = n
 
 module _ (tag w most : ℕ) (bs : List ℕ) where
-  pub head-bad : head_of tag bs ≡ Bad → rowHead tag w most bs ≡ Bad
-  unfolding rowHead
-  head-bad e = rw e
+  pub head_bad : head_of tag bs ≡ Bad → row_head tag w most bs ≡ Bad
+  unfolding row_head
+  head_bad e = rw e
 
   module _ (n : ℕ) (held : head_of tag bs ≡ Holds n) where
-    head-not : hasForm w most n ≡ false → rowHead tag w most bs ≡ Bad
-    unfolding rowHead
+    head-not : has_form w most n ≡ false → row_head tag w most bs ≡ Bad
+    unfolding row_head
     head-not e = rw held (ap (λ (b : Bool). cond b (Holds n) Bad) e)
 
-    pub head-short : n < w → rowHead tag w most bs ≡ Bad
+    pub head-short : n < w → row_head tag w most bs ≡ Bad
     head-short h = head-not (rw (lt-leb w n h))
 
-    pub head-odd : ((n - w) % 8 ≡ 0 → ⊥) → rowHead tag w most bs ≡ Bad
-    head-odd h = head-not (rw (ne_eqb ((n - w) % 8) 0 h) (and-false (leb w n)))
+    pub head_odd : ((n - w) % 8 ≡ 0 → ⊥) → row_head tag w most bs ≡ Bad
+    head_odd h = head-not (rw (ne_eqb ((n - w) % 8) 0 h) (and-false (leb w n)))
 
-    pub head-many : most < (n - w) / 8 → rowHead tag w most bs ≡ Bad
-    head-many h = head-not (rw (lt-leb ((n - w) / 8) most h, and-false (eqb ((n - w) % 8) 0)) (and-false (leb w n)))
+    pub head_many : most < (n - w) / 8 → row_head tag w most bs ≡ Bad
+    head_many h = head-not (rw (lt-leb ((n - w) / 8) most h, and-false (eqb ((n - w) % 8) 0)) (and-false (leb w n)))
 
-    pub head-good : w ≤ n → (n - w) % 8 ≡ 0 → (n - w) / 8 ≤ most → rowHead tag w most bs ≡ Holds n
-    unfolding rowHead
+    pub head-good : w ≤ n → (n - w) % 8 ≡ 0 → (n - w) / 8 ≤ most → row_head tag w most bs ≡ Holds n
+    unfolding row_head
     head-good h e g = rw (held, le-leb w n h, eq-eqb ((n - w) % 8) 0 e, le-leb ((n - w) / 8) most g)
 
   -- what a head that was found says of the bytes: its value has the form, and there is room for it
@@ -153,41 +153,41 @@ module _ (tag w most : ℕ) (bs : List ℕ) where
     pub whole : n ≡ w + 8 * ((n - w) / 8)
     pub few : (n - w) / 8 ≤ most
 
-  pub head-formed : (n : ℕ) → rowHead tag w most bs ≡ Holds n → Formed n
-  unfolding rowHead
+  pub head-formed : (n : ℕ) → row_head tag w most bs ≡ Holds n → Formed n
+  unfolding row_head
   head-formed n = by (head_of tag bs) refl
     where
-      formed : (m : ℕ) → head_of tag bs ≡ Holds m → hasForm w most m ≡ true → Formed m
+      formed : (m : ℕ) → head_of tag bs ≡ Holds m → has_form w most m ≡ true → Formed m
       formed m e g =
           let g1 = leb-true w m (and_left (leb w m) _ g) in
           let g2 = and_right (leb w m) (eqb ((m - w) % 8) 0 && leb ((m - w) / 8) most) g in
           let g3 = eqb-true ((m - w) % 8) 0 (and_left (eqb ((m - w) % 8) 0) (leb ((m - w) / 8) most) g2) in
           record { held = e; room = (head_read tag m bs e).2; wide = g1; whole = omega (arith, g1, g3); few = leb-true ((m - w) / 8) most (and_right (eqb ((m - w) % 8) 0) (leb ((m - w) / 8) most) g2) }
 
-      by : (d : Head) → head_of tag bs ≡ d → formedBy w most d ≡ Holds n → Formed n
+      by : (d : Head) → head_of tag bs ≡ d → formed_by w most d ≡ Holds n → Formed n
       by Bad e z = absurd (false≢true (ap is_held z))
-      by (Holds m) e z = step (hasForm w most m) refl z
+      by (Holds m) e z = step (has_form w most m) refl z
         where
-          step : (b : Bool) → hasForm w most m ≡ b → cond b (Holds m) Bad ≡ Holds n → Formed n
-          step true q z = subst Formed (ap sizeHeld z) (formed m e q)
+          step : (b : Bool) → has_form w most m ≡ b → cond b (Holds m) Bad ≡ Holds n → Formed n
+          step true q z = subst Formed (ap size_held z) (formed m e q)
           step false q z = absurd (false≢true (ap is_held z))
 
 module _ (f : Format) (bs : List ℕ) where
   abbrev found-head : Head
-  found-head = rowHead f.tag (total f.widths) f.names bs
+  found-head = row_head f.tag (total f.widths) f.names bs
 
-  pub row-bad : rowHead f.tag (total f.widths) f.names bs ≡ Bad → rowAt f bs ≡ absent
-  unfolding rowAt
-  row-bad e = rw e
+  pub row_bad : row_head f.tag (total f.widths) f.names bs ≡ Bad → row_at f bs ≡ absent
+  unfolding row_at
+  row_bad e = rw e
 
-  pub row_is : (n : ℕ) → rowHead f.tag (total f.widths) f.names bs ≡ Holds n → rowAt f bs ≡ present f bs n
-  unfolding rowAt
+  pub row_is : (n : ℕ) → row_head f.tag (total f.widths) f.names bs ≡ Holds n → row_at f bs ≡ present f bs n
+  unfolding row_at
   row_is n e = rw e
 
   -- a row that is not found says nothing
-  pub row-unfound : (rowAt f bs).found ≡ false → rowAt f bs ≡ absent
-  unfolding rowAt
-  row-unfound = by found-head
+  pub row_unfound : (row_at f bs).found ≡ false → row_at f bs ≡ absent
+  unfolding row_at
+  row_unfound = by found-head
     where
       by : (d : Head) → (row_in f bs d).found ≡ false → row_in f bs d ≡ absent
       by Bad z = refl
@@ -195,8 +195,8 @@ module _ (f : Format) (bs : List ℕ) where
 
   -- what holds of every row that has the form holds of the row at the front, where it is found
   module _ (P : Row Cells → Type 0) (there : (n : ℕ) → Formed f.tag (total f.widths) f.names bs n → P (present f bs n)) where
-    row-found : (rowAt f bs).found ≡ true → P (rowAt f bs)
-    unfolding rowAt
+    row-found : (row_at f bs).found ≡ true → P (row_at f bs)
+    unfolding row_at
     row-found = by found-head refl
       where
         by : (d : Head) → found-head ≡ d → (row_in f bs d).found ≡ true → P (row_in f bs d)
@@ -204,12 +204,12 @@ module _ (f : Format) (bs : List ℕ) where
         by (Holds n) e z = there n (head-formed f.tag (total f.widths) f.names bs n e)
 
     -- and of every row, where it holds of none
-    row_any : P absent → P (rowAt f bs)
-    row_any none = by (rowAt f bs).found refl
+    row_any : P absent → P (row_at f bs)
+    row_any none = by (row_at f bs).found refl
       where
-        by : (b : Bool) → (rowAt f bs).found ≡ b → P (rowAt f bs)
+        by : (b : Bool) → (row_at f bs).found ≡ b → P (row_at f bs)
         by true e = row-found e
-        by false e = subst P (sym (row-unfound e)) none
+        by false e = subst P (sym (row_unfound e)) none
 
 -- ---- a row
 
@@ -250,14 +250,14 @@ module _ (f : Format) (c : Cells) where
     said n e =
         let k = count n e in
         let long : 3 + n ≡ length (row_of f c) = omega (arith, length-row (fits-length f.widths c.numbers fit.numbers), e) in
-        let numbers : numbersOf f.widths (drop 3 bytes) ≡ c.numbers =
-        ap (numbersOf f.widths) (behind-head ∙ append_assoc (bare f.widths c.numbers) (words c.names) rest) ∙ numbers-bare f.widths c.numbers (words c.names ++ rest) fit.narrow fit.numbers in
+        let numbers : numbers_of f.widths (drop 3 bytes) ≡ c.numbers =
+        ap (numbers_of f.widths) (behind-head ∙ append_assoc (bare f.widths c.numbers) (words c.names) rest) ∙ numbers-bare f.widths c.numbers (words c.names ++ rest) fit.narrow fit.numbers in
         let names : words_of ((n - total f.widths) / 8) (drop (3 + total f.widths) bytes) ≡ c.names =
-        ap (λ (j : ℕ). words_of j (drop (3 + total f.widths) bytes)) k ∙ ap (words_of (length c.names)) behind-numbers ∙ wordsOf-words c.names rest fit.names in
+        ap (λ (j : ℕ). words_of j (drop (3 + total f.widths) bytes)) k ∙ ap (words_of (length c.names)) behind-numbers ∙ words_of-words c.names rest fit.names in
         λ i. record { found = true; size = long i; value = record { numbers = numbers i; names = names i } }
 
-    pub row-there : rowAt f bytes ≡ record { found = true; size = length (row_of f c); value = c }
-    row-there =
+    pub row_there : row_at f bytes ≡ record { found = true; size = length (row_of f c); value = c }
+    row_there =
         let n = length content in
         let held = head-field f.tag content rest (omega (arith, many, fit.few, fit.short)) in
         row_is f bytes n (head-good f.tag (total f.widths) f.names bytes n held (omega (arith, many)) (omega (arith, many)) (omega (arith, count n many, fit.few))) ∙ said n many
@@ -274,9 +274,9 @@ drop-replicate (suc k) (suc n) z =
     rw turn (drop-replicate k n z)
 
 -- the first k places filled, of n that were z
-pub pad-front : {A : Type 0} (n k : ℕ) (z : A) (xs ys : List A) → ys ≡ xs → length xs ≡ k → ys ++ drop k (replicate n z) ≡ pad n z xs
+pub pad_front : {A : Type 0} (n k : ℕ) (z : A) (xs ys : List A) → ys ≡ xs → length xs ≡ k → ys ++ drop k (replicate n z) ≡ pad n z xs
 unfolding pad
-pad-front n k z xs ys e h = rw (e, drop-replicate k n z, h)
+pad_front n k z xs ys e h = rw (e, drop-replicate k n z, h)
 
 -- a row filled: the head, the numbers, and then the names
 pub filled_row : (tag : ℕ) (x y out o ys zs : List ℕ) (w : ℕ) → length x ≡ w → 3 + w + length y ≡ length out → o ≡ over (tag ∷ be 2 (length out - 3)) out → ys ≡ x → zs ≡ y
@@ -290,13 +290,13 @@ filled_row tag x y out o ys zs w long room p q r now at =
     let same = ap length first ∙ length_over (head ++ x) out (omega (arith, many)) in
     let rest : length (take (length now - (3 + w)) (drop (3 + w) now)) ≡ length y = simp (length-take, length-drop) (omega (arith, same)) in
     let whole : length out - 3 ≡ length (x ++ y) = omega (arith, length-append x y) in
-    over-more (head ++ x) y out now zs (3 + w) first (sym many) (r ∙ sym (over-all y (take (length now - (3 + w)) (drop (3 + w) now)) (sym rest)))
+    over_more (head ++ x) y out now zs (3 + w) first (sym many) (r ∙ sym (over-all y (take (length now - (3 + w)) (drop (3 + w) now)) (sym rest)))
     ∙ over-all ((head ++ x) ++ y) out (omega (arith, length-append (head ++ x) y, many))
     ∙ append_assoc head x y ∙ ap (λ (k : ℕ). tag ∷ (be 2 k ++ (x ++ y))) whole
 
 -- bytes that do not begin with the tag
-pub row_other : (f : Format) (bs : List ℕ) → (get_or bs 0 0 ≡ f.tag → ⊥) → rowAt f bs ≡ absent
-row_other f bs h = row-bad f bs (head-bad f.tag (total f.widths) f.names bs (head-other f.tag bs h))
+pub row_other : (f : Format) (bs : List ℕ) → (get_or bs 0 0 ≡ f.tag → ⊥) → row_at f bs ≡ absent
+row_other f bs h = row_bad f bs (head_bad f.tag (total f.widths) f.names bs (head-other f.tag bs h))
 
 -- ---- a row that was found
 
@@ -307,7 +307,7 @@ pub record Back (f : Format) (bs : List ℕ) (r : Row Cells) : Type 0 where
   pub fit : fits f.widths r.value.numbers ≡ true
   pub names : Below (2 ^ 64) r.value.names
 
-pub row_back : (f : Format) (bs : List ℕ) → narrow f.widths ≡ true → Below 256 bs → (rowAt f bs).found ≡ true → Back f bs (rowAt f bs)
+pub row_back : (f : Format) (bs : List ℕ) → narrow f.widths ≡ true → Below 256 bs → (row_at f bs).found ≡ true → Back f bs (row_at f bs)
 row_back f bs t h = row-found f bs (λ r. Back f bs r) there
   where
     there : (n : ℕ) → Formed f.tag (total f.widths) f.names bs n → Back f bs (present f bs n)
@@ -316,13 +316,13 @@ row_back f bs t h = row-found f bs (λ r. Back f bs r) there
         let k = (n - w) / 8 in
         let below = below-drop 256 3 bs h in
         let room : length (drop 3 bs) ≡ length bs - 3 = length-drop 3 bs in
-        let first : bare f.widths (numbersOf f.widths (drop 3 bs)) ≡ take w (drop 3 bs) = bare-numbers f.widths (drop 3 bs) t below (omega (arith, g.room, room, g.wide)) in
+        let first : bare f.widths (numbers_of f.widths (drop 3 bs)) ≡ take w (drop 3 bs) = bare-numbers f.widths (drop 3 bs) t below (omega (arith, g.room, room, g.wide)) in
         let second : words (words_of k (drop (3 + w) bs)) ≡ take (8 * k) (drop w (drop 3 bs)) =
-        words-wordsOf k (drop (3 + w) bs) (below-drop 256 (3 + w) bs h) (omega (arith, g.room, g.whole, length-drop (3 + w) bs)) ∙ ap (take (8 * k)) (sym (drop-drop w 3 bs)) in
+        words-words_of k (drop (3 + w) bs) (below-drop 256 (3 + w) bs h) (omega (arith, g.room, g.whole, length-drop (3 + w) bs)) ∙ ap (take (8 * k)) (sym (drop-drop w 3 bs)) in
         record {
           room = g.room;
           fit = fits-numbers f.widths (drop 3 bs) t below (omega (arith, g.room, room, g.wide));
-          names = wordsOf-below k (drop (3 + w) bs);
+          names = words_of-below k (drop (3 + w) bs);
           bytes = field-head f.tag n bs h g.held ∙ ap (field f.tag) (ap (λ (j : ℕ). take j (drop 3 bs)) g.whole ∙ take-add w (8 * k) (drop 3 bs) ∙ sym (λ i. first i ++ second i));
         }
 
@@ -333,13 +333,13 @@ pub record Sized (f : Format) (bs : List ℕ) (r : Row Cells) : Type 0 where
   pub columns : length r.value.numbers ≡ length f.widths
   pub names : words_of (length r.value.names) (drop (3 + total f.widths) bs) ≡ r.value.names
 
-pub row_sized : (f : Format) (bs : List ℕ) → (rowAt f bs).found ≡ true → Sized f bs (rowAt f bs)
+pub row_sized : (f : Format) (bs : List ℕ) → (row_at f bs).found ≡ true → Sized f bs (row_at f bs)
 row_sized f bs = row-found f bs (λ r. Sized f bs r) there
   where
     there : (n : ℕ) → Formed f.tag (total f.widths) f.names bs n → Sized f bs (present f bs n)
     there n g =
         let w = total f.widths in
-        let k = length-wordsOf ((n - w) / 8) (drop (3 + w) bs) in
+        let k = length-words_of ((n - w) / 8) (drop (3 + w) bs) in
         record {
           size = omega (arith, g.whole, k);
           few = omega (arith, k, g.few);
@@ -348,7 +348,7 @@ row_sized f bs = row-found f bs (λ r. Sized f bs r) there
         }
 
 -- whatever is found is there
-pub row_room : (f : Format) (bs : List ℕ) → (rowAt f bs).size ≤ length bs
+pub row_room : (f : Format) (bs : List ℕ) → (row_at f bs).size ≤ length bs
 row_room f bs = row_any f bs (λ r. r.size ≤ length bs) (λ n g. g.room) (omega arith)
 
 -- a row without names

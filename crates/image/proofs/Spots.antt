@@ -18,46 +18,46 @@ use Rattle.rules.specs.Lists.{◌∈◌, conj, all}
 use Rattle.rules.specs.State.{free, occupied}
 use Rattle.rules.proofs.Lists.{and_left, and_right, and_both, conj-true, true-conj}
 use Rattle.image.specs.declared.Spot.{Spot}
-use Rattle.image.specs.Rows.{Cells, Row, row_of, rowAt, total, bytesFrom}
+use Rattle.image.specs.Rows.{Cells, Row, row_of, row_at, total, bytes_from}
 use Rattle.image.specs.Fit.{fits}
-use Rattle.image.specs.Form.{spotBytes}
-use Rattle.records.specs.Format.{roleCode}
-use Rattle.image.specs.Format.{objectRow, flag, objectCells, isObjectAt, objectFrom, objectSize}
-use Rattle.image.specs.Image.{placeBytes}
-use Rattle.image.specs.Reading.{noSpot, spotAt, spotSize, placeAt}
-use Rattle.image.proofs.RowLaws.{CellsFit, row_sized, row_room, row-there, row_other, row_back, fits-length, length-row, no_names}
+use Rattle.image.specs.Form.{spot_bytes}
+use Rattle.records.specs.Format.{role_code}
+use Rattle.image.specs.Format.{object_row, flag, object_cells, is_object_at, object_from, object_size}
+use Rattle.image.specs.Image.{place_bytes}
+use Rattle.image.specs.Reading.{no_spot, spot_at, spot_size, place_at}
+use Rattle.image.proofs.RowLaws.{CellsFit, row_sized, row_room, row_there, row_other, row_back, fits-length, length-row, no_names}
 use Rattle.image.proofs.Walks.{Each}
-use Rattle.image.proofs.Things.{spot-none, spot-other, spot_is}
+use Rattle.image.proofs.Things.{spot_none, spot_other, spot_is}
 
 -- a row that has no names has the bytes of its columns
-pub object-size : (bs : List ℕ) → (rowAt objectRow bs).found ≡ true → (rowAt objectRow bs).size ≡ objectSize
+pub object_size_lem : (bs : List ℕ) → (row_at object_row bs).found ≡ true → (row_at object_row bs).size ≡ object_size
 unfolding total
-object-size bs e =
-    let s = row_sized objectRow bs e in
+object_size_lem bs e =
+    let s = row_sized object_row bs e in
     omega (arith, s.size, s.few)
 
-pub object-long : (p : ℕ) (o : Object) → length (row_of objectRow (objectCells p o)) ≡ objectSize
+pub object_long : (p : ℕ) (o : Object) → length (row_of object_row (object_cells p o)) ≡ object_size
 unfolding total
-object-long p o = length-row objectRow (objectCells p o) refl
+object_long p o = length-row object_row (object_cells p o) refl
 
-pub spot-room : (p : ℕ) (bs : List ℕ) → spotSize (spotAt p bs).taken ≤ length bs
-unfolding spotAt
-spot-room p bs = by (rowAt objectRow bs).found (isObjectAt p (rowAt objectRow bs).value.numbers) refl
+pub spot_room : (p : ℕ) (bs : List ℕ) → spot_size (spot_at p bs).taken ≤ length bs
+unfolding spot_at
+spot_room p bs = by (row_at object_row bs).found (is_object_at p (row_at object_row bs).value.numbers) refl
   where
-    by : (b t : Bool) → (rowAt objectRow bs).found ≡ b → spotSize (cond (b && t) (record { taken = true; object = objectFrom (rowAt objectRow bs).value.numbers }) noSpot).taken ≤ length bs
-    by true true e = omega (arith, object-size bs e, row_room objectRow bs)
+    by : (b t : Bool) → (row_at object_row bs).found ≡ b → spot_size (cond (b && t) (record { taken = true; object = object_from (row_at object_row bs).value.numbers }) no_spot).taken ≤ length bs
+    by true true e = omega (arith, object_size_lem bs e, row_room object_row bs)
     by true false e = omega arith
     by false t e = omega arith
 
 -- ---- an object and the numbers of its row
 
-role-back : (r : Role) → ◌≡◌ {A = Role} (cond (eqb (roleCode r) 0) Writer Compactor) r
+role-back : (r : Role) → ◌≡◌ {A = Role} (cond (eqb (role_code r) 0) Writer Compactor) r
 role-back Writer = refl
 role-back Compactor = refl
 
-role-small : (r : Role) → leb (roleCode r) 1 ≡ true
-role-small Writer = refl
-role-small Compactor = refl
+role_small : (r : Role) → leb (role_code r) 1 ≡ true
+role_small Writer = refl
+role_small Compactor = refl
 
 flag-back : (b : Bool) → not (eqb (flag b) 0) ≡ b
 flag-back true = refl
@@ -68,10 +68,10 @@ flag_small true = refl
 flag_small false = refl
 
 -- a number of 0 or 1 is that of a role, and of a mark
-role-number : (n : ℕ) → n ≤ 1 → roleCode (cond (eqb n 0) Writer Compactor) ≡ n
-role-number n h = by (eqb n 0) refl
+role_number_lem : (n : ℕ) → n ≤ 1 → role_code (cond (eqb n 0) Writer Compactor) ≡ n
+role_number_lem n h = by (eqb n 0) refl
   where
-    by : (b : Bool) → eqb n 0 ≡ b → roleCode (cond b Writer Compactor) ≡ n
+    by : (b : Bool) → eqb n 0 ≡ b → role_code (cond b Writer Compactor) ≡ n
     by true e = sym (eqb-true n 0 e)
     by false e = omega (arith, eqb-false n 0 e)
 
@@ -82,10 +82,10 @@ flag-number n h = by (eqb n 0) refl
     by true e = sym (eqb-true n 0 e)
     by false e = omega (arith, eqb-false n 0 e)
 
-module _ (p : ℕ) (o : Object) (h : p < 256) (fit : fits objectRow.widths (objectCells 0 o).numbers ≡ true) where
-  pub object-fit : CellsFit objectRow (objectCells p o)
+module _ (p : ℕ) (o : Object) (h : p < 256) (fit : fits object_row.widths (object_cells 0 o).numbers ≡ true) where
+  pub object_fit : CellsFit object_row (object_cells p o)
   unfolding fits total all
-  object-fit = record {
+  object_fit = record {
     narrow = refl;
     numbers = and_both (ltb p (256 ^ 1)) _ (lt-ltb p (256 ^ 1) h) (and_right (ltb 0 (256 ^ 1)) _ fit);
     names = λ i. lit< tt;
@@ -93,70 +93,70 @@ module _ (p : ℕ) (o : Object) (h : p < 256) (fit : fits objectRow.widths (obje
     short = lit< tt;
   }
 
-  currency-small : o.currency < 65536
+  currency_small : o.currency < 65536
   unfolding fits
-  currency-small =
+  currency_small =
       let f1 = and_right (ltb 0 (256 ^ 1)) _ fit in
       let f2 = and_right (ltb o.number (256 ^ 8)) _ f1 in
-      let f3 = and_right (ltb (roleCode o.role) (256 ^ 1)) _ f2 in
+      let f3 = and_right (ltb (role_code o.role) (256 ^ 1)) _ f2 in
       let f4 = and_right (ltb o.epoch (256 ^ 8)) _ f3 in
       ltb-true o.currency (256 ^ 2) (and_left (ltb o.currency (256 ^ 2)) _ f4)
 
-  object-back : objectFrom (objectCells p o).numbers ≡ o
+  object-back : object_from (object_cells p o).numbers ≡ o
   object-back = λ i. record {
     number = o.number;
     role = role-back o.role i;
     epoch = o.epoch;
-    currency = mod-eq_of_lt {n = o.currency} {m = 65536} currency-small i;
+    currency = mod-eq_of_lt {n = o.currency} {m = 65536} currency_small i;
     named = flag-back o.named i;
   }
 
-  object-is : isObjectAt p (objectCells p o).numbers ≡ true
-  unfolding isObjectAt
-  object-is = true-conj _ (eq-eqb p p refl, (role-small o.role, (flag_small o.named, tt)))
+  object_is : is_object_at p (object_cells p o).numbers ≡ true
+  unfolding is_object_at
+  object_is = true-conj _ (eq-eqb p p refl, (role_small o.role, (flag_small o.named, tt)))
 
   -- its row at the front is read as the object at its place
-  pub spot-there : (rest : List ℕ) → spotAt p (row_of objectRow (objectCells p o) ++ rest) ≡ record { taken = true; object = o }
-  spot-there rest =
-      let bs = row_of objectRow (objectCells p o) ++ rest in
-      let e = row-there objectRow (objectCells p o) rest object-fit in
+  pub spot_there : (rest : List ℕ) → spot_at p (row_of object_row (object_cells p o) ++ rest) ≡ record { taken = true; object = o }
+  spot_there rest =
+      let bs = row_of object_row (object_cells p o) ++ rest in
+      let e = row_there object_row (object_cells p o) rest object_fit in
       let numbers = ap (λ (r : Row Cells). r.value.numbers) e in
-      spot_is p bs (ap (λ (r : Row Cells). r.found) e) (ap (isObjectAt p) numbers ∙ object-is) ∙ (λ i. record { taken = true; object = (ap objectFrom numbers ∙ object-back) i })
+      spot_is p bs (ap (λ (r : Row Cells). r.found) e) (ap (is_object_at p) numbers ∙ object_is) ∙ (λ i. record { taken = true; object = (ap object_from numbers ∙ object-back) i })
 
   -- and as none at another place
-  pub spot-elsewhere : (q : ℕ) → (p ≡ q → ⊥) → (rest : List ℕ) → spotAt q (row_of objectRow (objectCells p o) ++ rest) ≡ noSpot
-  unfolding isObjectAt conj
-  spot-elsewhere q ne rest =
-      let bs = row_of objectRow (objectCells p o) ++ rest in
-      let e = row-there objectRow (objectCells p o) rest object-fit in
+  pub spot_elsewhere : (q : ℕ) → (p ≡ q → ⊥) → (rest : List ℕ) → spot_at q (row_of object_row (object_cells p o) ++ rest) ≡ no_spot
+  unfolding is_object_at conj
+  spot_elsewhere q ne rest =
+      let bs = row_of object_row (object_cells p o) ++ rest in
+      let e = row_there object_row (object_cells p o) rest object_fit in
       let numbers = ap (λ (r : Row Cells). r.value.numbers) e in
-      spot-other q bs (ap (isObjectAt q) numbers ∙ rw (ne_eqb p q ne))
+      spot_other q bs (ap (is_object_at q) numbers ∙ rw (ne_eqb p q ne))
 
 -- ---- the places as spots
 
 -- their bytes are those of the places, where a spot is taken exactly when its object is there
 pub spots-bytes : (p : ℕ) (ss : List Spot) → map (λ s. s.taken) ss ≡ map occupied (map (λ s. s.object) ss)
-    → bytesFrom spotBytes p ss ≡ bytesFrom placeBytes p (map (λ s. s.object) ss)
-unfolding bytesFrom placeBytes
+    → bytes_from spot_bytes p ss ≡ bytes_from place_bytes p (map (λ s. s.object) ss)
+unfolding bytes_from place_bytes
 spots-bytes p [] e = refl
 spots-bytes p (s ∷ ss) e =
-    ap₂ (λ (b : Bool) (l : List ℕ). cond b (row_of objectRow (objectCells p s.object)) [] ++ l) (head-eq_of_cons-eq e) (spots-bytes (suc p) ss (tail-eq_of_cons-eq e))
+    ap₂ (λ (b : Bool) (l : List ℕ). cond b (row_of object_row (object_cells p s.object)) [] ++ l) (head-eq_of_cons-eq e) (spots-bytes (suc p) ss (tail-eq_of_cons-eq e))
 
 -- ---- reading what was written
 
 -- a spot is free and all zero, or its numbers fit
 pub record SpotFit (s : Spot) : Type 0 where
   pub clear : s.taken ≡ false → s.object ≡ free
-  pub fit : fits objectRow.widths (objectCells 0 s.object).numbers ≡ true
+  pub fit : fits object_row.widths (object_cells 0 s.object).numbers ≡ true
 
 abbrev pub AllFit : List Spot → Type 0
 AllFit ss = (s : Spot) → s ∈ ss → SpotFit s
 
 -- before the rows of later places there is none of this one
 absent-before : (p q : ℕ) (ss : List Spot) (r : List ℕ) → p < q → q + length ss ≤ 256 → AllFit ss → (get_or r 0 0 ≡ 0x64 → ⊥)
-    → spotAt p (bytesFrom spotBytes q ss ++ r) ≡ noSpot
-unfolding bytesFrom
-absent-before p q [] r h room fit other = spot-none p r (ap (λ (x : Row Cells). x.found) (row_other objectRow r other))
+    → spot_at p (bytes_from spot_bytes q ss ++ r) ≡ no_spot
+unfolding bytes_from
+absent-before p q [] r h room fit other = spot_none p r (ap (λ (x : Row Cells). x.found) (row_other object_row r other))
 absent-before p q (s ∷ ss) r h room fit other =
     by (absent-before p (suc q) ss r (omega (arith, h)) (omega (arith, room)) (λ x i. fit x (Memᴰ.tail i)) other) s.taken
   where
@@ -164,16 +164,16 @@ absent-before p q (s ∷ ss) r h room fit other =
     o = s.object
 
     rest : List ℕ
-    rest = bytesFrom spotBytes (suc q) ss
+    rest = bytes_from spot_bytes (suc q) ss
 
-    by : spotAt p (rest ++ r) ≡ noSpot → (b : Bool) → spotAt p ((cond b (row_of objectRow (objectCells q o)) [] ++ rest) ++ r) ≡ noSpot
+    by : spot_at p (rest ++ r) ≡ no_spot → (b : Bool) → spot_at p ((cond b (row_of object_row (object_cells q o)) [] ++ rest) ++ r) ≡ no_spot
     by next true =
-        ap (spotAt p) (append_assoc (row_of objectRow (objectCells q o)) rest r)
-        ∙ spot-elsewhere q o (omega (arith, room)) (fit s (Memᴰ.head refl)).fit p (λ z. omega (arith, z, h)) (rest ++ r)
+        ap (spot_at p) (append_assoc (row_of object_row (object_cells q o)) rest r)
+        ∙ spot_elsewhere q o (omega (arith, room)) (fit s (Memᴰ.head refl)).fit p (λ z. omega (arith, z, h)) (rest ++ r)
     by next false = next
 
-pub places-each : (p : ℕ) (ss : List Spot) (r : List ℕ) → p + length ss ≤ 256 → AllFit ss → (get_or r 0 0 ≡ 0x64 → ⊥) → Each spotBytes placeAt p ss r
-unfolding Each bytesFrom
+pub places-each : (p : ℕ) (ss : List Spot) (r : List ℕ) → p + length ss ≤ 256 → AllFit ss → (get_or r 0 0 ≡ 0x64 → ⊥) → Each spot_bytes place_at p ss r
+unfolding Each bytes_from
 places-each p [] r room fit other = tt
 places-each p (s ∷ ss) r room fit other =
     (by s.taken refl, places-each (suc p) ss r (omega (arith, room)) (λ x i. fit x (Memᴰ.tail i)) other)
@@ -182,21 +182,21 @@ places-each p (s ∷ ss) r room fit other =
     o = s.object
 
     rest : List ℕ
-    rest = bytesFrom spotBytes (suc p) ss
+    rest = bytes_from spot_bytes (suc p) ss
 
     full : List ℕ → Row Spot
     full l = record { found = true; size = length l; value = s }
 
-    none : spotAt p (rest ++ r) ≡ noSpot
+    none : spot_at p (rest ++ r) ≡ no_spot
     none = absent-before p (suc p) ss r (omega arith) (omega (arith, room)) (λ x i. fit x (Memᴰ.tail i)) other
 
-    by : (b : Bool) → s.taken ≡ b → placeAt p (cond b (row_of objectRow (objectCells p o)) [] ++ (rest ++ r)) ≡ full (cond b (row_of objectRow (objectCells p o)) [])
+    by : (b : Bool) → s.taken ≡ b → place_at p (cond b (row_of object_row (object_cells p o)) [] ++ (rest ++ r)) ≡ full (cond b (row_of object_row (object_cells p o)) [])
     by true e =
-        let there = spot-there p o (omega (arith, room)) (fit s (Memᴰ.head refl)).fit (rest ++ r) in
-        let long : objectSize ≡ length (row_of objectRow (objectCells p o)) = sym (object-long p o) in
-        (λ i. record { found = true; size = spotSize (there i).taken; value = there i }) ∙ (λ i. record { found = true; size = long i; value = record { taken = sym e i; object = o } })
+        let there = spot_there p o (omega (arith, room)) (fit s (Memᴰ.head refl)).fit (rest ++ r) in
+        let long : object_size ≡ length (row_of object_row (object_cells p o)) = sym (object_long p o) in
+        (λ i. record { found = true; size = spot_size (there i).taken; value = there i }) ∙ (λ i. record { found = true; size = long i; value = record { taken = sym e i; object = o } })
     by false e =
-        λ i. record { found = true; size = spotSize (none i).taken; value = (none ∙ (λ j. record { taken = sym e j; object = sym ((fit s (Memᴰ.head refl)).clear e) j })) i }
+        λ i. record { found = true; size = spot_size (none i).taken; value = (none ∙ (λ j. record { taken = sym e j; object = sym ((fit s (Memᴰ.head refl)).clear e) j })) i }
 
 -- ---- writing what was read
 
@@ -207,63 +207,63 @@ six v e =
     ∙ ap (λ l. get_or v 2 0 ∷ l) (drop-cons v 3 0 (omega arith) ∙ ap (λ l. get_or v 3 0 ∷ l) (drop-cons v 4 0 (omega arith)
     ∙ ap (λ l. get_or v 4 0 ∷ l) (drop-cons v 5 0 (omega arith) ∙ ap (λ l. get_or v 5 0 ∷ l) (drop_of_length-le v {i = 6} (omega arith)))))))
 
-fifth : (v : List ℕ) → fits objectRow.widths v ≡ true → get_or v 4 0 < 65536
+fifth : (v : List ℕ) → fits object_row.widths v ≡ true → get_or v 4 0 < 65536
 unfolding fits
 fifth v fit =
-    let e = rw (six v (sym (fits-length objectRow.widths v fit))) at fit in
+    let e = rw (six v (sym (fits-length object_row.widths v fit))) at fit in
     let f1 = and_right (ltb (get_or v 0 0) (256 ^ 1)) _ e in
     let f2 = and_right (ltb (get_or v 1 0) (256 ^ 8)) _ f1 in
     let f3 = and_right (ltb (get_or v 2 0) (256 ^ 1)) _ f2 in
     let f4 = and_right (ltb (get_or v 3 0) (256 ^ 8)) _ f3 in
     ltb-true (get_or v 4 0) (256 ^ 2) (and_left (ltb (get_or v 4 0) (256 ^ 2)) _ f4)
 
-cells-back : (p : ℕ) (v : List ℕ) → fits objectRow.widths v ≡ true → isObjectAt p v ≡ true → (objectCells p (objectFrom v)).numbers ≡ v
-unfolding isObjectAt
+cells-back : (p : ℕ) (v : List ℕ) → fits object_row.widths v ≡ true → is_object_at p v ≡ true → (object_cells p (object_from v)).numbers ≡ v
+unfolding is_object_at
 cells-back p v fit is =
     let f = conj-true _ is in
     let place = sym (eqb-true (get_or v 0 0) p f.0) in
-    let role = role-number (get_or v 2 0) (leb-true (get_or v 2 0) 1 f.1.0) in
+    let role = role_number_lem (get_or v 2 0) (leb-true (get_or v 2 0) 1 f.1.0) in
     let named = flag-number (get_or v 5 0) (leb-true (get_or v 5 0) 1 f.1.1.0) in
     let currency = mod-eq_of_lt {n = get_or v 4 0} {m = 65536} (fifth v fit) in
-    (λ i. place i ∷ get_or v 1 0 ∷ role i ∷ get_or v 3 0 ∷ currency i ∷ named i ∷ []) ∙ sym (six v (sym (fits-length objectRow.widths v fit)))
+    (λ i. place i ∷ get_or v 1 0 ∷ role i ∷ get_or v 3 0 ∷ currency i ∷ named i ∷ []) ∙ sym (six v (sym (fits-length object_row.widths v fit)))
 
-pub spot_back : (p : ℕ) (bs : List ℕ) → Below 256 bs → (take (spotSize (spotAt p bs).taken) bs ≡ spotBytes p (spotAt p bs)) × (spotSize (spotAt p bs).taken ≤ length bs)
-unfolding spotAt all
-spot_back p bs h = by (rowAt objectRow bs).found (isObjectAt p (rowAt objectRow bs).value.numbers) refl refl
+pub spot_back : (p : ℕ) (bs : List ℕ) → Below 256 bs → (take (spot_size (spot_at p bs).taken) bs ≡ spot_bytes p (spot_at p bs)) × (spot_size (spot_at p bs).taken ≤ length bs)
+unfolding spot_at all
+spot_back p bs h = by (row_at object_row bs).found (is_object_at p (row_at object_row bs).value.numbers) refl refl
   where
     row : Row Cells
-    row = rowAt objectRow bs
+    row = row_at object_row bs
 
     yes : Spot
-    yes = record { taken = true; object = objectFrom (rowAt objectRow bs).value.numbers }
+    yes = record { taken = true; object = object_from (row_at object_row bs).value.numbers }
 
-    by : (b t : Bool) → (rowAt objectRow bs).found ≡ b → isObjectAt p (rowAt objectRow bs).value.numbers ≡ t
-        → (take (spotSize (cond (b && t) yes noSpot).taken) bs ≡ spotBytes p (cond (b && t) yes noSpot)) × (spotSize (cond (b && t) yes noSpot).taken ≤ length bs)
+    by : (b t : Bool) → (row_at object_row bs).found ≡ b → is_object_at p (row_at object_row bs).value.numbers ≡ t
+        → (take (spot_size (cond (b && t) yes no_spot).taken) bs ≡ spot_bytes p (cond (b && t) yes no_spot)) × (spot_size (cond (b && t) yes no_spot).taken ≤ length bs)
     by true true e is =
-        let back = row_back objectRow bs refl h e in
-        let size = object-size bs e in
-        let s = row_sized objectRow bs e in
-        let same : row_of objectRow (rowAt objectRow bs).value ≡ row_of objectRow (objectCells p (objectFrom (rowAt objectRow bs).value.numbers)) =
-        λ i. row_of objectRow (record { numbers = sym (cells-back p (rowAt objectRow bs).value.numbers back.fit is) i; names = sym (no_names (rowAt objectRow bs).value.names s.few) i }) in
+        let back = row_back object_row bs refl h e in
+        let size = object_size_lem bs e in
+        let s = row_sized object_row bs e in
+        let same : row_of object_row (row_at object_row bs).value ≡ row_of object_row (object_cells p (object_from (row_at object_row bs).value.numbers)) =
+        λ i. row_of object_row (record { numbers = sym (cells-back p (row_at object_row bs).value.numbers back.fit is) i; names = sym (no_names (row_at object_row bs).value.names s.few) i }) in
         (ap (λ (n : ℕ). take n bs) (sym size) ∙ back.bytes ∙ same, omega (arith, size, back.room))
     by true false e is = (refl, omega arith)
     by false t e is = (refl, omega arith)
 
 -- what was read fits
-pub spot-fits : (p : ℕ) (bs : List ℕ) → Below 256 bs → SpotFit (spotAt p bs)
-unfolding spotAt all fits
-spot-fits p bs h = by (rowAt objectRow bs).found (isObjectAt p (rowAt objectRow bs).value.numbers) refl refl
+pub spot_fits : (p : ℕ) (bs : List ℕ) → Below 256 bs → SpotFit (spot_at p bs)
+unfolding spot_at all fits
+spot_fits p bs h = by (row_at object_row bs).found (is_object_at p (row_at object_row bs).value.numbers) refl refl
   where
     v : List ℕ
-    v = (rowAt objectRow bs).value.numbers
+    v = (row_at object_row bs).value.numbers
 
     yes : Spot
-    yes = record { taken = true; object = objectFrom v }
+    yes = record { taken = true; object = object_from v }
 
-    by : (b t : Bool) → (rowAt objectRow bs).found ≡ b → isObjectAt p v ≡ t → SpotFit (cond (b && t) yes noSpot)
+    by : (b t : Bool) → (row_at object_row bs).found ≡ b → is_object_at p v ≡ t → SpotFit (cond (b && t) yes no_spot)
     by true true e is =
-        let back = row_back objectRow bs refl h e in
-        let all_fit : fits objectRow.widths (objectCells p (objectFrom v)).numbers ≡ true = ap (fits objectRow.widths) (cells-back p v back.fit is) ∙ back.fit in
+        let back = row_back object_row bs refl h e in
+        let all_fit : fits object_row.widths (object_cells p (object_from v)).numbers ≡ true = ap (fits object_row.widths) (cells-back p v back.fit is) ∙ back.fit in
         record { clear = λ z. absurd (false≢true (sym z)); fit = and_both (ltb 0 (256 ^ 1)) _ refl (and_right (ltb p (256 ^ 1)) _ all_fit) }
     by true false e is = record { clear = λ z. refl; fit = refl }
     by false t e is = record { clear = λ z. refl; fit = refl }

@@ -10,74 +10,74 @@ use Rattle.rules.specs.declared.Object.{Object}
 use Rattle.rules.specs.Limits.{limits}
 use Rattle.rules.specs.State.{occupied}
 use Rattle.arrays.specs.Arrays.{pad}
-use Rattle.arrays.proofs.Lists.{getD-pad}
+use Rattle.arrays.proofs.Lists.{get_d_pad}
 use Rattle.image.specs.declared.Line.{Line}
 use Rattle.image.specs.declared.HoldFound.{HoldFound}
-use Rattle.image.specs.Rows.{Cells, Row, row_of, rowAt}
-use Rattle.image.specs.Format.{objectRow, objectCells, isObjectAt, objectFrom, manifestFrom, holdFrom}
-use Rattle.image.specs.Image.{placeBytes}
-use Rattle.image.specs.Reading.{noSpot, spotAt}
-use Rattle.image.specs.Code.{mostColumns, line, madeManifest, foundManifest, foundHold, Put}
+use Rattle.image.specs.Rows.{Cells, Row, row_of, row_at}
+use Rattle.image.specs.Format.{object_row, object_cells, is_object_at, object_from, manifest_from, hold_from}
+use Rattle.image.specs.Image.{place_bytes}
+use Rattle.image.specs.Reading.{no_spot, spot_at}
+use Rattle.image.specs.Code.{most_columns, line, made_manifest, found_manifest, found_hold, Put}
 
 -- ---- a place
 
 module _ (p : ℕ) (bs : List ℕ) where
-  pub spot-none : (rowAt objectRow bs).found ≡ false → spotAt p bs ≡ noSpot
-  unfolding spotAt
-  spot-none e = rw e
+  pub spot_none : (row_at object_row bs).found ≡ false → spot_at p bs ≡ no_spot
+  unfolding spot_at
+  spot_none e = rw e
 
-  pub spot-other : isObjectAt p (rowAt objectRow bs).value.numbers ≡ false → spotAt p bs ≡ noSpot
-  unfolding spotAt
-  spot-other e = rw (e, and-false (rowAt objectRow bs).found)
+  pub spot_other : is_object_at p (row_at object_row bs).value.numbers ≡ false → spot_at p bs ≡ no_spot
+  unfolding spot_at
+  spot_other e = rw (e, and-false (row_at object_row bs).found)
 
-  pub spot_is : (rowAt objectRow bs).found ≡ true → isObjectAt p (rowAt objectRow bs).value.numbers ≡ true
-      → spotAt p bs ≡ record { taken = true; object = objectFrom (rowAt objectRow bs).value.numbers }
-  unfolding spotAt
+  pub spot_is : (row_at object_row bs).found ≡ true → is_object_at p (row_at object_row bs).value.numbers ≡ true
+      → spot_at p bs ≡ record { taken = true; object = object_from (row_at object_row bs).value.numbers }
+  unfolding spot_at
   spot_is e g = rw (e, g)
 
 module _ (p : ℕ) (o : Object) where
-  pub place-free : o.number ≡ 0 → placeBytes p o ≡ []
-  unfolding placeBytes
+  pub place-free : o.number ≡ 0 → place_bytes p o ≡ []
+  unfolding place_bytes
   place-free e = rw (eq-eqb o.number 0 e)
 
   pub place-taken : (o.number ≡ 0 → ⊥) → occupied o ≡ true
   place-taken e = ap not (ne_eqb o.number 0 e)
 
-  pub place-row : occupied o ≡ true → placeBytes p o ≡ row_of objectRow (objectCells p o)
-  unfolding placeBytes
-  place-row e = ap (λ (b : Bool). cond b (row_of objectRow (objectCells p o)) []) e
+  pub place-row : occupied o ≡ true → place_bytes p o ≡ row_of object_row (object_cells p o)
+  unfolding place_bytes
+  place-row e = ap (λ (b : Bool). cond b (row_of object_row (object_cells p o)) []) e
 
 -- the first number of a row in its places
 pub line-number : (l : Line) (r : Row Cells) → l ≡ line r → get_or l.numbers 0 0 ≡ get_or r.value.numbers 0 0
-line-number l r e = ap (λ (m : Line). get_or m.numbers 0 0) e ∙ getD-pad mostColumns 0 r.value.numbers 0
+line-number l r e = ap (λ (m : Line). get_or m.numbers 0 0) e ∙ get_d_pad most_columns 0 r.value.numbers 0
 
 -- ---- a manifest and a hold
 
-pub manifest-line : (r : Row Cells) → madeManifest (line r) (pad limits.names 0 r.value.names) ≡ foundManifest (record { found = r.found; size = r.size; value = manifestFrom r.value })
+pub manifest-line : (r : Row Cells) → made_manifest (line r) (pad limits.names 0 r.value.names) ≡ found_manifest (record { found = r.found; size = r.size; value = manifest_from r.value })
 manifest-line r =
     let v = r.value.numbers in
     λ i. record {
       found = r.found;
       size = r.size;
       manifest = record {
-        number = getD-pad mostColumns 0 v 0 i;
-        writer = getD-pad mostColumns 0 v 1 i;
-        compactor = getD-pad mostColumns 0 v 2 i;
+        number = get_d_pad most_columns 0 v 0 i;
+        writer = get_d_pad most_columns 0 v 1 i;
+        compactor = get_d_pad most_columns 0 v 2 i;
         count = length r.value.names;
         names = pad limits.names 0 r.value.names;
       };
     }
 
-abbrev pub madeHold : Line → HoldFound
-madeHold l = record { found = l.found; size = l.size; hold = record { number = get_or l.numbers 0 0; manifest = get_or l.numbers 1 0; expiry = get_or l.numbers 2 0 } }
+abbrev pub made_hold : Line → HoldFound
+made_hold l = record { found = l.found; size = l.size; hold = record { number = get_or l.numbers 0 0; manifest = get_or l.numbers 1 0; expiry = get_or l.numbers 2 0 } }
 
-pub hold-line : (r : Row Cells) → madeHold (line r) ≡ foundHold (record { found = r.found; size = r.size; value = holdFrom r.value.numbers })
+pub hold-line : (r : Row Cells) → made_hold (line r) ≡ found_hold (record { found = r.found; size = r.size; value = hold_from r.value.numbers })
 hold-line r =
     let v = r.value.numbers in
     λ i. record {
       found = r.found;
       size = r.size;
-      hold = record { number = getD-pad mostColumns 0 v 0 i; manifest = getD-pad mostColumns 0 v 1 i; expiry = getD-pad mostColumns 0 v 2 i };
+      hold = record { number = get_d_pad most_columns 0 v 0 i; manifest = get_d_pad most_columns 0 v 1 i; expiry = get_d_pad most_columns 0 v 2 i };
     }
 
 -- ---- bytes that were laid

@@ -13,26 +13,26 @@ use lib.ListN.{length, get_or, take, drop, length-append, length-drop, take-appe
 use lib.Seq.{drop-drop, take-suc, drop_at, take-add, append_snoc, length-take-le}
 use Rattle.fields.proofs.Bytes.{Below, below-drop}
 use Rattle.rules.specs.Lists.{◌∈◌}
-use Rattle.image.specs.Rows.{Row, Rows, bytesFrom, no_rows, and_then, rows_from}
+use Rattle.image.specs.Rows.{Row, Rows, bytes_from, no_rows, and_then, rows_from}
 
 module _ {A : Type 0} (f : ℕ → A → List ℕ) where
-  pub bytes-append : (p : ℕ) (xs ys : List A) → bytesFrom f p (xs ++ ys) ≡ bytesFrom f p xs ++ bytesFrom f (p + length xs) ys
-  unfolding bytesFrom
+  pub bytes-append : (p : ℕ) (xs ys : List A) → bytes_from f p (xs ++ ys) ≡ bytes_from f p xs ++ bytes_from f (p + length xs) ys
+  unfolding bytes_from
   bytes-append p [] ys = rw add-zero
   bytes-append p (x ∷ xs) ys =
       let turn : suc p + length xs ≡ p + suc (length xs) = omega arith in
-      rw (bytes-append (suc p) xs ys, turn) (sym (append_assoc (f p x) (bytesFrom f (suc p) xs) (bytesFrom f (p + suc (length xs)) ys)))
+      rw (bytes-append (suc p) xs ys, turn) (sym (append_assoc (f p x) (bytes_from f (suc p) xs) (bytes_from f (p + suc (length xs)) ys)))
 
   -- one row more
-  pub bytes_next : (xs : List A) (i : ℕ) (d : A) → i < length xs → bytesFrom f 0 (take (i + 1) xs) ≡ bytesFrom f 0 (take i xs) ++ f i (get_or xs i d)
-  unfolding bytesFrom
+  pub bytes_next : (xs : List A) (i : ℕ) (d : A) → i < length xs → bytes_from f 0 (take (i + 1) xs) ≡ bytes_from f 0 (take i xs) ++ f i (get_or xs i d)
+  unfolding bytes_from
   bytes_next xs i d h =
       let long : 0 + length (take i xs) ≡ i = omega (arith, length-take-le i xs (omega arith)) in
       rw (add-one, take-suc xs i d h, bytes-append 0 (take i xs) (get_or xs i d ∷ []), long, append-nil)
 
-  pub bytes-some : (xs : List A) (i : ℕ) → length (bytesFrom f 0 (take i xs)) ≤ length (bytesFrom f 0 xs)
+  pub bytes-some : (xs : List A) (i : ℕ) → length (bytes_from f 0 (take i xs)) ≤ length (bytes_from f 0 xs)
   bytes-some xs i =
-      omega (arith, ap (λ (l : List A). length (bytesFrom f 0 l)) (take-append-drop i xs), ap length (bytes-append 0 (take i xs) (drop i xs)), length-append (bytesFrom f 0 (take i xs)) (bytesFrom f (0 + length (take i xs)) (drop i xs)))
+      omega (arith, ap (λ (l : List A). length (bytes_from f 0 l)) (take-append-drop i xs), ap length (bytes-append 0 (take i xs) (drop i xs)), length-append (bytes_from f 0 (take i xs)) (bytes_from f (0 + length (take i xs)) (drop i xs)))
 
 -- ---- rows that are read as they were written
 
@@ -40,22 +40,22 @@ module _ {A : Type 0} (f : ℕ → A → List ℕ) (at : ℕ → List ℕ → Ro
   -- each is found, as it is, before those behind it
   unfoldable pub Each : ℕ → List A → List ℕ → Type 0
   Each p [] rest = Unit {0}
-  Each p (x ∷ xs) rest = (at p (f p x ++ (bytesFrom f (suc p) xs ++ rest)) ≡ record { found = true; size = length (f p x); value = x }) × Each (suc p) xs rest
+  Each p (x ∷ xs) rest = (at p (f p x ++ (bytes_from f (suc p) xs ++ rest)) ≡ record { found = true; size = length (f p x); value = x }) × Each (suc p) xs rest
 
   -- nothing more is taken: there are as many as there may be, or what comes next is no row
-  pub rows-there : (k p : ℕ) (xs : List A) (rest : List ℕ) → length xs ≤ k → Each p xs rest → (length xs ≡ k) ⊎ ((q : ℕ) → (at q rest).found ≡ false)
-      → rows_from at k p (bytesFrom f p xs ++ rest) ≡ record { values = xs; size = length (bytesFrom f p xs) }
-  unfolding rows_from bytesFrom Each
-  rows-there zero p [] rest h each stop = refl
-  rows-there zero p (x ∷ xs) rest h each stop = absurd (omega (arith, h))
-  rows-there (suc k) p [] rest h each (inl e) = absurd (omega (arith, e))
-  rows-there (suc k) p [] rest h each (inr none) =
+  pub rows_there : (k p : ℕ) (xs : List A) (rest : List ℕ) → length xs ≤ k → Each p xs rest → (length xs ≡ k) ⊎ ((q : ℕ) → (at q rest).found ≡ false)
+      → rows_from at k p (bytes_from f p xs ++ rest) ≡ record { values = xs; size = length (bytes_from f p xs) }
+  unfolding rows_from bytes_from Each
+  rows_there zero p [] rest h each stop = refl
+  rows_there zero p (x ∷ xs) rest h each stop = absurd (omega (arith, h))
+  rows_there (suc k) p [] rest h each (inl e) = absurd (omega (arith, e))
+  rows_there (suc k) p [] rest h each (inr none) =
       let r = at p rest in
       let rs = rows_from at k (suc p) (drop r.size rest) in
       ap (λ (b : Bool). cond b (record { values = r.value ∷ rs.values; size = r.size + rs.size }) no_rows) (none p)
-  rows-there (suc k) p (x ∷ xs) rest h each stop =
-      let bytes = bytesFrom f (suc p) xs in
-      let next = rows-there k (suc p) xs rest (omega (arith, h)) each.1 (fewer stop) in
+  rows_there (suc k) p (x ∷ xs) rest h each stop =
+      let bytes = bytes_from f (suc p) xs in
+      let next = rows_there k (suc p) xs rest (omega (arith, h)) each.1 (fewer stop) in
       let front : at p ((f p x ++ bytes) ++ rest) ≡ record { found = true; size = length (f p x); value = x } = ap (at p) (append_assoc (f p x) bytes rest) ∙ each.0 in
       rw front (ap (λ (l : List ℕ). and_then (record { found = true; size = length (f p x); value = x }) (rows_from at k (suc p) l))
       (ap (drop (length (f p x))) (append_assoc (f p x) bytes rest) ∙ drop_at (f p x) (bytes ++ rest) (length (f p x)) refl)
@@ -70,8 +70,8 @@ module _ {A : Type 0} (f : ℕ → A → List ℕ) (at : ℕ → List ℕ → Ro
 
   module _ (back : (p : ℕ) (bs : List ℕ) → Below 256 bs → (at p bs).found ≡ true → (take (at p bs).size bs ≡ f p (at p bs).value) × ((at p bs).size ≤ length bs)) where
     pub rows_back : (k p : ℕ) (bs : List ℕ) → Below 256 bs
-        → (take (rows_from at k p bs).size bs ≡ bytesFrom f p (rows_from at k p bs).values) × ((rows_from at k p bs).size ≤ length bs)
-    unfolding rows_from bytesFrom
+        → (take (rows_from at k p bs).size bs ≡ bytes_from f p (rows_from at k p bs).values) × ((rows_from at k p bs).size ≤ length bs)
+    unfolding rows_from bytes_from
     rows_back zero p bs h = (refl, omega arith)
     rows_back (suc k) p bs h = step (at p bs).found refl (rows_back k (suc p) (drop (at p bs).size bs) (below-drop 256 (at p bs).size bs h))
       where
@@ -82,8 +82,8 @@ module _ {A : Type 0} (f : ℕ → A → List ℕ) (at : ℕ → List ℕ → Ro
         here = record { values = (at p bs).value ∷ rest.values; size = (at p bs).size + rest.size }
 
         step : (b : Bool) → (at p bs).found ≡ b
-            → (take rest.size (drop (at p bs).size bs) ≡ bytesFrom f (suc p) rest.values) × (rest.size ≤ length (drop (at p bs).size bs))
-            → (take (cond b here no_rows).size bs ≡ bytesFrom f p (cond b here no_rows).values) × ((cond b here no_rows).size ≤ length bs)
+            → (take rest.size (drop (at p bs).size bs) ≡ bytes_from f (suc p) rest.values) × (rest.size ≤ length (drop (at p bs).size bs))
+            → (take (cond b here no_rows).size bs ≡ bytes_from f p (cond b here no_rows).values) × ((cond b here no_rows).size ≤ length bs)
         step true e next =
             let b = back p bs h e in
             (take-add (at p bs).size rest.size bs ∙ (λ i. b.0 i ++ next.0 i), omega (arith, b.1, next.1, length-drop (at p bs).size bs))
@@ -147,8 +147,8 @@ module _ {A : Type 0} (at : ℕ → List ℕ → Row A) where
       pub values : done ++ (rows_from at (k - i) i (drop pos s)).values ≡ (rows_from at k 0 s).values
       pub size : pos + (rows_from at (k - i) i (drop pos s)).size ≡ (rows_from at k 0 s).size
 
-    pub going-none : Going 0 0 []
-    going-none = record {
+    pub going_none : Going 0 0 []
+    going_none = record {
       many = refl;
       room = omega arith;
       values = ap (λ (j : ℕ). (rows_from at j 0 s).values) (sub-zero k);
@@ -176,8 +176,8 @@ module _ {A : Type 0} (at : ℕ → List ℕ → Row A) where
             size = (let whole : r.size + rest.size ≡ (rows_from at (k - i) i (drop pos s)).size = ap (λ (t : Rows A). t.size) (sym now) in omega (arith, whole, g.size));
           }
 
-      none_left : rows_from at (k - i) i (drop pos s) ≡ no_rows → (done ≡ (rows_from at k 0 s).values) × (pos ≡ (rows_from at k 0 s).size)
-      none_left e = (
+      none_left_lem : rows_from at (k - i) i (drop pos s) ≡ no_rows → (done ≡ (rows_from at k 0 s).values) × (pos ≡ (rows_from at k 0 s).size)
+      none_left_lem e = (
         sym (append-nil done) ∙ ap (λ (t : Rows A). done ++ t.values) (sym e) ∙ g.values,
         sym (add-zero pos) ∙ ap (λ (t : Rows A). pos + t.size) (sym e) ∙ g.size,
       )
@@ -186,8 +186,8 @@ module _ {A : Type 0} (at : ℕ → List ℕ → Row A) where
       going_end h e =
           let r = at i (drop pos s) in
           let rest = rows_from at (k - (i + 1)) (i + 1) (drop (pos + r.size) s) in
-          none_left (here h ∙ ap (λ (b : Bool). cond b (record { values = r.value ∷ rest.values; size = r.size + rest.size }) no_rows) e)
+          none_left_lem (here h ∙ ap (λ (b : Bool). cond b (record { values = r.value ∷ rest.values; size = r.size + rest.size }) no_rows) e)
 
-      pub going-full : k ≤ i → (done ≡ (rows_from at k 0 s).values) × (pos ≡ (rows_from at k 0 s).size)
+      pub going_full : k ≤ i → (done ≡ (rows_from at k 0 s).values) × (pos ≡ (rows_from at k 0 s).size)
       unfolding rows_from
-      going-full h = let none : k - i ≡ 0 = omega arith in none_left (ap (λ (j : ℕ). rows_from at j i (drop pos s)) none)
+      going_full h = let none : k - i ≡ 0 = omega arith in none_left_lem (ap (λ (j : ℕ). rows_from at j i (drop pos s)) none)

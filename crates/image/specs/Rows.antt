@@ -29,9 +29,9 @@ total [] = 0
 total (w ∷ ws) = w + total ws
 
 -- the numbers that bytes say in these widths
-unfoldable pub numbersOf : List ℕ → List ℕ → List ℕ
-numbersOf [] bs = []
-numbersOf (w ∷ ws) bs = kept64 (value_of (take w bs)) ∷ numbersOf ws (drop w bs)
+unfoldable pub numbers_of : List ℕ → List ℕ → List ℕ
+numbers_of [] bs = []
+numbers_of (w ∷ ws) bs = kept64 (value_of (take w bs)) ∷ numbers_of ws (drop w bs)
 
 -- the bytes of a row
 abbrev pub row_of : Format → Cells → List ℕ
@@ -48,23 +48,23 @@ abbrev pub absent : Row Cells
 absent = record { found = false; size = 0; value = record { numbers = []; names = [] } }
 
 -- a value of n bytes has numbers of w bytes in all and then whole names, not too many
-abbrev pub hasForm : ℕ → ℕ → ℕ → Bool
-hasForm w most n = leb w n && (eqb ((n - w) % 8) 0 && leb ((n - w) / 8) most)
+abbrev pub has_form : ℕ → ℕ → ℕ → Bool
+has_form w most n = leb w n && (eqb ((n - w) % 8) 0 && leb ((n - w) / 8) most)
 
-abbrev pub formedBy : ℕ → ℕ → Head → Head
-formedBy w most Bad = Bad
-formedBy w most (Holds n) = cond (hasForm w most n) (Holds n) Bad
+abbrev pub formed_by : ℕ → ℕ → Head → Head
+formed_by w most Bad = Bad
+formed_by w most (Holds n) = cond (has_form w most n) (Holds n) Bad
 
 -- the head of the row at the front, which has to have this tag and this form
-unfoldable pub rowHead : ℕ → ℕ → ℕ → List ℕ → Head
-rowHead tag w most bs = formedBy w most (head_of tag bs)
+unfoldable pub row_head : ℕ → ℕ → ℕ → List ℕ → Head
+row_head tag w most bs = formed_by w most (head_of tag bs)
 
 abbrev pub present : Format → List ℕ → ℕ → Row Cells
 present f bs n = record {
   found = true;
   size = 3 + n;
   value = record {
-    numbers = numbersOf f.widths (drop 3 bs);
+    numbers = numbers_of f.widths (drop 3 bs);
     names = words_of ((n - total f.widths) / 8) (drop (3 + total f.widths) bs);
   };
 }
@@ -73,8 +73,8 @@ abbrev pub row_in : Format → List ℕ → Head → Row Cells
 row_in f bs Bad = absent
 row_in f bs (Holds n) = present f bs n
 
-unfoldable pub rowAt : Format → List ℕ → Row Cells
-rowAt f bs = row_in f bs (rowHead f.tag (total f.widths) f.names bs)
+unfoldable pub row_at : Format → List ℕ → Row Cells
+row_at f bs = row_in f bs (row_head f.tag (total f.widths) f.names bs)
 
 -- Rows one behind the other, counted from p
 
@@ -84,9 +84,9 @@ pub record Rows (A : Type 0) : Type 0 where
 
 module _ {A : Type 0} where
   -- their bytes
-  unfoldable pub bytesFrom : (ℕ → A → List ℕ) → ℕ → List A → List ℕ
-  bytesFrom f p [] = []
-  bytesFrom f p (x ∷ xs) = f p x ++ bytesFrom f (suc p) xs
+  unfoldable pub bytes_from : (ℕ → A → List ℕ) → ℕ → List A → List ℕ
+  bytes_from f p [] = []
+  bytes_from f p (x ∷ xs) = f p x ++ bytes_from f (suc p) xs
 
   abbrev pub no_rows : Rows A
   no_rows = record { values = []; size = 0 }

@@ -3,7 +3,7 @@
 use Rattle.std.specs.Prelude.{cond, List, ℕ, ltb, length}
 use Rattle.fields.specs.Fields.{over}
 use Rattle.ledger.specs.declared.Ledger.{Ledger}
-use Rattle.ledger.specs.Ledger.{view, isSound}
+use Rattle.ledger.specs.Ledger.{view, is_sound}
 use Rattle.image.specs.declared.ImageWrite.{ImageWrite}
 use Rattle.image.specs.declared.ImageWrite.TheVariants.{Written, Unsound, Full}
 use Rattle.image.specs.Image.{image_of}
@@ -16,11 +16,11 @@ abbrev pub put : List ℕ → List ℕ → Writing
 put bytes buffer =
     cond (ltb (length buffer) (length bytes)) (record { answer = Full; buffer = buffer }) (record { answer = Written (length bytes); buffer = over bytes buffer })
 
-unfoldable pub writingOf : Ledger → List ℕ → Writing
-writingOf l buffer = cond (isSound l) (put (image_of (view l)) buffer) (record { answer = Unsound; buffer = buffer })
+unfoldable pub writing_of : Ledger → List ℕ → Writing
+writing_of l buffer = cond (is_sound l) (put (image_of (view l)) buffer) (record { answer = Unsound; buffer = buffer })
 
 -- the number for each answer: the bytes written; 1 and "full" as the paper has them, and 0 is no image's length
-abbrev pub writeCode : ImageWrite → ℕ
-writeCode (Written n) = n
-writeCode Unsound = 1
-writeCode Full = 0
+abbrev pub write_code : ImageWrite → ℕ
+write_code (Written n) = n
+write_code Unsound = 1
+write_code Full = 0

@@ -1,13 +1,13 @@
 // The rows of an image: of one number, of an object, of a manifest, of a hold. This file alone knows their columns.
 ghost use Rattle.std.specs.Prelude.{◌≡◌, true, [], ◌∷◌, ◌+◌, ◌≤◌, ◌<◌, length, drop};
 ghost use Rattle.rules.specs.State.{occupied};
-ghost use Rattle.manifests.specs.Manifests.{isListLaid, manifestOf};
-ghost use Rattle.image.specs.Rows.{numbersOf, row_of, rowAt};
-ghost use Rattle.records.specs.Format.{roleCode};
-ghost use Rattle.image.specs.Format.{flag, single, objectRow, objectSize, objectCells, isObjectAt, objectFrom};
-ghost use Rattle.image.specs.Image.{placeBytes, manifestBytes, holdBytes};
-ghost use Rattle.image.specs.Reading.{noSpot, spotAt, spotSize, manifestAt, holdAt};
-ghost use Rattle.image.specs.Code.{line, madeManifest, foundManifest, foundHold, Put};
+ghost use Rattle.manifests.specs.Manifests.{is_list_laid, manifest_of};
+ghost use Rattle.image.specs.Rows.{numbers_of, row_of, row_at};
+ghost use Rattle.records.specs.Format.{role_code};
+ghost use Rattle.image.specs.Format.{flag, single, object_row, object_size, object_cells, is_object_at, object_from};
+ghost use Rattle.image.specs.Image.{place_bytes, manifest_bytes, hold_bytes};
+ghost use Rattle.image.specs.Reading.{no_spot, spot_at, spot_size, manifest_at, hold_at};
+ghost use Rattle.image.specs.Code.{line, made_manifest, found_manifest, found_hold, Put};
 
 use crate::{COLUMNS, HoldFound, Line, ManifestFound, Spot, rows};
 use fields::Head;
@@ -58,7 +58,7 @@ pub(crate) const HOLD_ROW: usize = 3 + HOLD_WIDTH;
 
 // The row at the front.
 pub(crate) fn single_at(s: &[u8], tag: u8, width: usize) -> Line
-    ensures { result ≡ line (rowAt (record { tag = tag; widths = width ∷ []; names = 0 }) s.now) }
+    ensures { result ≡ line (row_at (record { tag = tag; widths = width ∷ []; names = 0 }) s.now) }
 {
     let widths = [width];
     rows::row_at(s, tag, &widths, width, 0)
@@ -78,7 +78,7 @@ pub(crate) fn put_single(tag: u8, width: usize, number: u64, out: &mut [u8])
 // Objects
 
 fn role_number(role: Role) -> u64
-    ensures { result ≡ roleCode role }
+    ensures { result ≡ role_code role }
 {
     match role {
         Role::Writer => 0,
@@ -96,7 +96,7 @@ fn flag_number(b: bool) -> u64
 }
 
 fn object_numbers(place: u64, o: Object) -> [u64; COLUMNS]
-    ensures { result ≡ (objectCells place o).numbers }
+    ensures { result ≡ (object_cells place o).numbers }
 {
     let role = o.role;
     let r = role_number(role);
@@ -106,7 +106,7 @@ fn object_numbers(place: u64, o: Object) -> [u64; COLUMNS]
 }
 
 fn role_from(n: u64) -> Role
-    ensures { result ≡ (objectFrom (0 ∷ 0 ∷ n ∷ [])).role }
+    ensures { result ≡ (object_from (0 ∷ 0 ∷ n ∷ [])).role }
 {
     if n == 0 {
         return Role::Writer;
@@ -115,7 +115,7 @@ fn role_from(n: u64) -> Role
 }
 
 fn object_from(v: [u64; COLUMNS]) -> Object
-    ensures { result ≡ objectFrom v }
+    ensures { result ≡ object_from v }
 {
     let number = v[1];
     let role = role_from(v[2]);
@@ -132,7 +132,7 @@ fn object_from(v: [u64; COLUMNS]) -> Object
 }
 
 fn is_object_at(place: u64, v: [u64; COLUMNS]) -> bool
-    ensures { result ≡ isObjectAt place v }
+    ensures { result ≡ is_object_at place v }
 {
     if v[0] != place {
         return false;
@@ -144,7 +144,7 @@ fn is_object_at(place: u64, v: [u64; COLUMNS]) -> bool
 }
 
 fn no_spot() -> Spot
-    ensures { result ≡ noSpot }
+    ensures { result ≡ no_spot }
 {
     let object = objects::no_object();
     Spot {
@@ -161,8 +161,8 @@ fn byte(b: u8) -> u64
 
 // The numbers of an object's row, read where they stand: most of an image is such rows.
 fn object_columns(s: &[u8]) -> [u64; COLUMNS]
-    requires { objectSize ≤ length s.now }
-    ensures { result ≡ numbersOf objectRow.widths (drop 3 s.now) }
+    requires { object_size ≤ length s.now }
+    ensures { result ≡ numbers_of object_row.widths (drop 3 s.now) }
 {
     [
         byte(s[PLACE_AT]),
@@ -176,7 +176,7 @@ fn object_columns(s: &[u8]) -> [u64; COLUMNS]
 
 // The place, with the object whose row stands at the front.
 pub(crate) fn spot_at(s: &[u8], place: u64) -> Spot
-    ensures { result ≡ spotAt place s.now }
+    ensures { result ≡ spot_at place s.now }
 {
     let head = rows::row_head(s, OBJECT_TAG, OBJECT_WIDTH, 0);
     let Head::Holds(_) = head else {
@@ -195,7 +195,7 @@ pub(crate) fn spot_at(s: &[u8], place: u64) -> Spot
 
 // The bytes of a place's row: none where it is free.
 pub(crate) fn place_size(o: Object) -> usize
-    ensures { result ≡ spotSize (occupied o) }
+    ensures { result ≡ spot_size (occupied o) }
 {
     if o.number == 0 {
         return 0;
@@ -205,8 +205,8 @@ pub(crate) fn place_size(o: Object) -> usize
 
 // Lays a place's row over the start of the slice.
 pub(crate) fn put_place(place: u64, o: Object, out: &mut [u8]) -> usize
-    requires { length (placeBytes place o) ≤ length out.old }
-    ensures { Put (placeBytes place o) out.old out.new result }
+    requires { length (place_bytes place o) ≤ length out.old }
+    ensures { Put (place_bytes place o) out.old out.new result }
 {
     if o.number == 0 {
         return 0;
@@ -228,7 +228,7 @@ pub(crate) fn put_place(place: u64, o: Object, out: &mut [u8]) -> usize
 
 // The manifest of a row's columns and names.
 fn manifest_from(row: Line, names: [u64; NAMES]) -> ManifestFound
-    ensures { result ≡ madeManifest row names }
+    ensures { result ≡ made_manifest row names }
 {
     let v = row.numbers;
     let manifest = KeptManifest {
@@ -247,7 +247,7 @@ fn manifest_from(row: Line, names: [u64; NAMES]) -> ManifestFound
 
 // The manifest whose row stands at the front.
 pub(crate) fn manifest_at(s: &[u8]) -> ManifestFound
-    ensures { result ≡ foundManifest (manifestAt 0 s.now) }
+    ensures { result ≡ found_manifest (manifest_at 0 s.now) }
 {
     let row = rows::row_at(s, MANIFEST_TAG, &MANIFEST_WIDTHS, MANIFEST_WIDTH, NAMES);
     let mut names = [0u64; NAMES];
@@ -260,16 +260,16 @@ pub(crate) fn manifest_at(s: &[u8]) -> ManifestFound
 }
 
 pub(crate) fn manifest_size(m: KeptManifest) -> usize
-    requires { isListLaid m ≡ true }
-    ensures { result ≡ length (manifestBytes 0 (manifestOf m)) }
+    requires { is_list_laid m ≡ true }
+    ensures { result ≡ length (manifest_bytes 0 (manifest_of m)) }
 {
     MANIFEST_ROW + 8 * m.count
 }
 
 // Lays a manifest's row over the start of the slice.
 pub(crate) fn put_manifest(m: KeptManifest, out: &mut [u8]) -> usize
-    requires { (isListLaid m ≡ true) × (length (manifestBytes 0 (manifestOf m)) ≤ length out.old) }
-    ensures { Put (manifestBytes 0 (manifestOf m)) out.old out.new result }
+    requires { (is_list_laid m ≡ true) × (length (manifest_bytes 0 (manifest_of m)) ≤ length out.old) }
+    ensures { Put (manifest_bytes 0 (manifest_of m)) out.old out.new result }
 {
     let count = m.count;
     let names = m.names;
@@ -290,7 +290,7 @@ pub(crate) fn put_manifest(m: KeptManifest, out: &mut [u8]) -> usize
 
 // The hold whose row stands at the front.
 pub(crate) fn hold_at(s: &[u8]) -> HoldFound
-    ensures { result ≡ foundHold (holdAt 0 s.now) }
+    ensures { result ≡ found_hold (hold_at 0 s.now) }
 {
     let row = rows::row_at(s, HOLD_TAG, &HOLD_WIDTHS, HOLD_WIDTH, 0);
     let v = row.numbers;
@@ -308,8 +308,8 @@ pub(crate) fn hold_at(s: &[u8]) -> HoldFound
 
 // Lays a hold's row over the start of the slice.
 pub(crate) fn put_hold(hold: Hold, out: &mut [u8]) -> usize
-    requires { length (holdBytes 0 hold) ≤ length out.old }
-    ensures { Put (holdBytes 0 hold) out.old out.new result }
+    requires { length (hold_bytes 0 hold) ≤ length out.old }
+    ensures { Put (hold_bytes 0 hold) out.old out.new result }
 {
     let numbers = [hold.number, hold.manifest, hold.expiry];
     let names = [0u64; 0];

@@ -5,7 +5,7 @@ mod rows;
 mod saving;
 
 ghost use Rattle.std.specs.Prelude.{◌≡◌};
-ghost use Rattle.image.specs.RoundTrip.{longestImage};
+ghost use Rattle.image.specs.RoundTrip.{longest_image};
 
 use holds::Holds;
 use ledger::Ledger;
@@ -44,7 +44,7 @@ pub const LONGEST_IMAGE: usize = 3
 
 // The room that holds any image.
 pub fn longest_image() -> usize
-    ensures { result ≡ longestImage }
+    ensures { result ≡ longest_image }
 {
     LONGEST_IMAGE
 }

@@ -1,8 +1,8 @@
 // An image read: its rows in their order, and nothing behind them.
 ghost use Rattle.std.specs.Prelude.{◌≡◌, true, ◌≤◌, ◌<◌, ◌*◌, length};
-ghost use Rattle.rules.specs.Limits.{wordBits};
-ghost use Rattle.image.specs.Reading.{spotSize, places_of, keptOf, holds_of, isHeaded, refused, read_of};
-ghost use Rattle.image.specs.Code.{marked, objectsRead, manifestsRead, holdsRead, rowsRead};
+ghost use Rattle.rules.specs.Limits.{word_bits};
+ghost use Rattle.image.specs.Reading.{spot_size, places_of, kept_of, holds_of, is_headed, refused, read_of};
+ghost use Rattle.image.specs.Code.{marked, objects_read, manifests_read, holds_read, rows_read};
 
 use crate::{
     CLOCK_AT, CLOCK_TAG, COLLECTED_AT, COLLECTED_TAG, EDITION, EDITION_TAG, HoldsRead, IMAGE_TAG,
@@ -16,8 +16,8 @@ use rules::{HOLDS, MANIFESTS, PLACES, WORDS};
 
 // The bit of a taken place is set; the bytes of its row.
 fn mark(words: &mut [u64], at: usize, taken: bool) -> usize
-    requires { at < length words.old * wordBits }
-    ensures { (result ≡ spotSize taken) × (words.new ≡ marked taken at words.old) }
+    requires { at < length words.old * word_bits }
+    ensures { (result ≡ spot_size taken) × (words.new ≡ marked taken at words.old) }
 {
     if !taken {
         return 0;
@@ -28,7 +28,7 @@ fn mark(words: &mut [u64], at: usize, taken: bool) -> usize
 
 // The places, each with the object whose row comes next, or free.
 fn read_objects(s: &[u8]) -> ObjectsRead
-    ensures { result ≡ objectsRead (places_of s.now) }
+    ensures { result ≡ objects_read (places_of s.now) }
 {
     let mut items = [objects::no_object(); PLACES];
     let mut words = [0u64; WORDS];
@@ -50,7 +50,7 @@ fn read_objects(s: &[u8]) -> ObjectsRead
 
 // The manifests whose rows come next, as many as there are places for.
 fn read_manifests(s: &[u8]) -> ManifestsRead
-    ensures { result ≡ manifestsRead (keptOf s.now) }
+    ensures { result ≡ manifests_read (kept_of s.now) }
 {
     let none = Manifests::first();
     let mut items = none.items;
@@ -75,7 +75,7 @@ fn read_manifests(s: &[u8]) -> ManifestsRead
 
 // The holds whose rows come next, as many as there are places for.
 fn read_holds(s: &[u8]) -> HoldsRead
-    ensures { result ≡ holdsRead (holds_of s.now) }
+    ensures { result ≡ holds_read (holds_of s.now) }
 {
     let none = Holds::none();
     let mut items = none.items;
@@ -97,7 +97,7 @@ fn read_holds(s: &[u8]) -> HoldsRead
 
 // Whether the edition, the clock and the highest number collected stand at the front.
 fn is_headed(s: &[u8]) -> bool
-    ensures { result ≡ isHeaded s.now }
+    ensures { result ≡ is_headed s.now }
 {
     let edition = entries::single_at(s, EDITION_TAG, 1);
     if !edition.found {
@@ -124,8 +124,8 @@ fn refuse(reading: Reading) -> ImageRead
 
 // The ledger of the rows, and whether they are all.
 fn read_rows(s: &[u8]) -> RowsRead
-    requires { isHeaded s.now ≡ true }
-    ensures { result ≡ rowsRead s.now }
+    requires { is_headed s.now ≡ true }
+    ensures { result ≡ rows_read s.now }
 {
     let clock_row = entries::single_at(&s[CLOCK_AT..], CLOCK_TAG, 8);
     let c = clock_row.numbers;

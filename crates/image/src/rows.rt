@@ -2,7 +2,7 @@
 ghost use Rattle.std.specs.Prelude.{◌≡◌, ◌++◌, ◌+◌, ◌*◌, ◌≤◌, length};
 ghost use Rattle.fields.specs.Bytes.{words};
 ghost use Rattle.fields.specs.Fields.{field};
-ghost use Rattle.image.specs.Rows.{bare, total, numbersOf, rowHead, rowAt};
+ghost use Rattle.image.specs.Rows.{bare, total, numbers_of, row_head, row_at};
 ghost use Rattle.image.specs.Code.{Form, line};
 
 use crate::{COLUMNS, Line};
@@ -26,7 +26,7 @@ fn put_columns(widths: &[usize], numbers: &[u64], out: &mut [u8])
 // Fills the list with the numbers that the bytes say in these widths.
 fn read_columns(s: &[u8], widths: &[usize], numbers: &mut [u64])
     requires { (length numbers.old ≡ length widths.now) × (total widths.now ≤ length s.now) }
-    ensures { numbers.new ≡ numbersOf widths.now s.now }
+    ensures { numbers.new ≡ numbers_of widths.now s.now }
 {
     let mut at = 0;
     let mut i = 0;
@@ -71,7 +71,7 @@ fn absent() -> Line
 
 // The head of the row at the front, which has to have this tag, numbers of that width in all, and then no more names than `most`.
 pub(crate) fn row_head(s: &[u8], tag: u8, width: usize, most: usize) -> Head
-    ensures { result ≡ rowHead tag width most s.now }
+    ensures { result ≡ row_head tag width most s.now }
 {
     let head = fields::read_head(s, tag);
     let Head::Holds(n) = head else {
@@ -92,7 +92,7 @@ pub(crate) fn row_head(s: &[u8], tag: u8, width: usize, most: usize) -> Head
 // The row at the front, which has to have this form; its names are left to whoever wants them.
 pub(crate) fn row_at(s: &[u8], tag: u8, widths: &[usize], width: usize, most: usize) -> Line
     requires { Form widths.now width }
-    ensures { result ≡ line (rowAt (record { tag = tag; widths = widths.now; names = most }) s.now) }
+    ensures { result ≡ line (row_at (record { tag = tag; widths = widths.now; names = most }) s.now) }
 {
     let head = row_head(s, tag, width, most);
     let Head::Holds(n) = head else {

@@ -1,13 +1,13 @@
 // An image written: its length first, then row behind row.
 ghost use Rattle.std.specs.Prelude.{◌≡◌, true, ◌≤◌, length};
 ghost use Rattle.rules.specs.Limits.{limits};
-ghost use Rattle.manifests.specs.Manifests.{manifestsOf, isLaid};
+ghost use Rattle.manifests.specs.Manifests.{manifests_of, is_laid};
 ghost use Rattle.holds.specs.Holds.{holds_of};
-ghost use Rattle.ledger.specs.Ledger.{view, isSound};
-ghost use Rattle.image.specs.Rows.{bytesFrom};
-ghost use Rattle.image.specs.Image.{headBytes, placeBytes, manifestBytes, holdBytes, image_of};
-ghost use Rattle.image.specs.Reading.{rowsBegin};
-ghost use Rattle.image.specs.Writing.{writingOf};
+ghost use Rattle.ledger.specs.Ledger.{view, is_sound};
+ghost use Rattle.image.specs.Rows.{bytes_from};
+ghost use Rattle.image.specs.Image.{head_bytes, place_bytes, manifest_bytes, hold_bytes, image_of};
+ghost use Rattle.image.specs.Reading.{rows_begin};
+ghost use Rattle.image.specs.Writing.{writing_of};
 ghost use Rattle.image.specs.Code.{Put};
 
 use crate::{
@@ -22,7 +22,7 @@ use rules::{Object, PLACES};
 // The lengths
 
 fn places_size(items: [Object; PLACES]) -> usize
-    ensures { result ≡ length (bytesFrom placeBytes 0 items) }
+    ensures { result ≡ length (bytes_from place_bytes 0 items) }
 {
     let mut size: usize = 0;
     let mut i: usize = 0;
@@ -35,8 +35,8 @@ fn places_size(items: [Object; PLACES]) -> usize
 }
 
 fn manifests_size(manifests: Manifests) -> usize
-    requires { isLaid manifests ≡ true }
-    ensures { result ≡ length (bytesFrom manifestBytes 0 (manifestsOf manifests)) }
+    requires { is_laid manifests ≡ true }
+    ensures { result ≡ length (bytes_from manifest_bytes 0 (manifests_of manifests)) }
 {
     let count = manifests.count;
     let mut size: usize = 0;
@@ -50,7 +50,7 @@ fn manifests_size(manifests: Manifests) -> usize
 }
 
 fn size_of(ledger: Ledger) -> usize
-    requires { isSound ledger ≡ true }
+    requires { is_sound ledger ≡ true }
     ensures { result ≡ length (image_of (view ledger)) }
 {
     let objects = ledger.objects;
@@ -64,8 +64,8 @@ fn size_of(ledger: Ledger) -> usize
 
 // Fills the slice with the edition, the clock and the highest number collected.
 fn put_header(clock: u64, collected: u64, out: &mut [u8])
-    requires { length out.old ≡ rowsBegin }
-    ensures { out.new ≡ headBytes clock collected }
+    requires { length out.old ≡ rows_begin }
+    ensures { out.new ≡ head_bytes clock collected }
 {
     entries::put_single(EDITION_TAG, 1, EDITION, &mut out[..CLOCK_AT]);
     entries::put_single(CLOCK_TAG, 8, clock, &mut out[CLOCK_AT..COLLECTED_AT]);
@@ -74,8 +74,8 @@ fn put_header(clock: u64, collected: u64, out: &mut [u8])
 
 // Lays the rows of the objects over the start of the slice.
 fn put_places(items: [Object; PLACES], out: &mut [u8]) -> usize
-    requires { length (bytesFrom placeBytes 0 items) ≤ length out.old }
-    ensures { Put (bytesFrom placeBytes 0 items) out.old out.new result }
+    requires { length (bytes_from place_bytes 0 items) ≤ length out.old }
+    ensures { Put (bytes_from place_bytes 0 items) out.old out.new result }
 {
     let mut at: usize = 0;
     let mut i: usize = 0;
@@ -88,8 +88,8 @@ fn put_places(items: [Object; PLACES], out: &mut [u8]) -> usize
 }
 
 fn put_manifests(manifests: Manifests, out: &mut [u8]) -> usize
-    requires { (isLaid manifests ≡ true) × (length (bytesFrom manifestBytes 0 (manifestsOf manifests)) ≤ length out.old) }
-    ensures { Put (bytesFrom manifestBytes 0 (manifestsOf manifests)) out.old out.new result }
+    requires { (is_laid manifests ≡ true) × (length (bytes_from manifest_bytes 0 (manifests_of manifests)) ≤ length out.old) }
+    ensures { Put (bytes_from manifest_bytes 0 (manifests_of manifests)) out.old out.new result }
 {
     let count = manifests.count;
     let mut at: usize = 0;
@@ -103,8 +103,8 @@ fn put_manifests(manifests: Manifests, out: &mut [u8]) -> usize
 }
 
 fn put_holds(holds: Holds, out: &mut [u8]) -> usize
-    requires { (holds.count ≤ limits.holds) × (length (bytesFrom holdBytes 0 (holds_of holds)) ≤ length out.old) }
-    ensures { Put (bytesFrom holdBytes 0 (holds_of holds)) out.old out.new result }
+    requires { (holds.count ≤ limits.holds) × (length (bytes_from hold_bytes 0 (holds_of holds)) ≤ length out.old) }
+    ensures { Put (bytes_from hold_bytes 0 (holds_of holds)) out.old out.new result }
 {
     let count = holds.count;
     let mut at: usize = 0;
@@ -119,7 +119,7 @@ fn put_holds(holds: Holds, out: &mut [u8]) -> usize
 
 // Fills the slice with the image.
 fn put_image(ledger: Ledger, out: &mut [u8])
-    requires { (isSound ledger ≡ true) × (length out.old ≡ length (image_of (view ledger))) }
+    requires { (is_sound ledger ≡ true) × (length out.old ≡ length (image_of (view ledger))) }
     ensures { out.new ≡ image_of (view ledger) }
 {
     fields::put_head(IMAGE_TAG, out.len() - 3, out);
@@ -136,7 +136,7 @@ fn put_image(ledger: Ledger, out: &mut [u8])
 
 // Writes a sound ledger's image at the start of `out`; the bytes beyond it stay. Where it refuses nothing is written.
 pub fn write_image(ledger: Ledger, out: &mut [u8]) -> ImageWrite
-    ensures { writingOf ledger out.old ≡ record { answer = result; buffer = out.new } }
+    ensures { writing_of ledger out.old ≡ record { answer = result; buffer = out.new } }
 {
     if !ledger.is_sound() {
         return ImageWrite::Unsound;

@@ -4,20 +4,20 @@ use Rattle.std.specs.Prelude.{cond, List, ℕ, ltb, length}
 use Rattle.fields.specs.Fields.{over}
 use Rattle.image.specs.declared.ImageRead.{ImageRead}
 use Rattle.image.specs.Reading.{read_of, read_code}
-use Rattle.image.specs.Writing.{Writing, writingOf, writeCode}
+use Rattle.image.specs.Writing.{Writing, writing_of, write_code}
 use Rattle.exports.specs.Names.{Call}
-use Rattle.ledger_numbers.specs.Numbers.{ledgerSize, ledgerNumbers, ledgerFrom}
+use Rattle.ledger_numbers.specs.Numbers.{ledger_size, ledger_numbers, ledger_from}
 
 abbrev pub written : Writing → Call
-written w = record { answer = writeCode w.answer; left = w.buffer }
+written w = record { answer = write_code w.answer; left = w.buffer }
 
 -- 3 where the numbers are too few, then 1 for a ledger that is not sound, then 0 where room is short, else the bytes written
-unfoldable pub writeImage : List ℕ → List ℕ → Call
-writeImage ledger out = cond (ltb (length ledger) ledgerSize) (record { answer = 3; left = out }) (written (writingOf (ledgerFrom ledger) out))
+unfoldable pub write_image : List ℕ → List ℕ → Call
+write_image ledger out = cond (ltb (length ledger) ledger_size) (record { answer = 3; left = out }) (written (writing_of (ledger_from ledger) out))
 
-abbrev pub readTo : ImageRead → List ℕ → Call
-readTo r ledger = record { answer = read_code r.reading; left = over (ledgerNumbers r.ledger) ledger }
+abbrev pub read_to : ImageRead → List ℕ → Call
+read_to r ledger = record { answer = read_code r.reading; left = over (ledger_numbers r.ledger) ledger }
 
 -- 3 where the numbers are too few; else 0, 1 or 2, with the ledger that was read, or the fresh one beside a refusal
-unfoldable pub readImage : List ℕ → List ℕ → Call
-readImage bytes ledger = cond (ltb (length ledger) ledgerSize) (record { answer = 3; left = ledger }) (readTo (read_of bytes) ledger)
+unfoldable pub read_image : List ℕ → List ℕ → Call
+read_image bytes ledger = cond (ltb (length ledger) ledger_size) (record { answer = 3; left = ledger }) (read_to (read_of bytes) ledger)

@@ -1,8 +1,8 @@
 // Images for C: bytes and numbers, no `requires`. include/cuudhaqil_image.h says what each call promises.
 ghost use Rattle.std.specs.Prelude.{◌≡◌};
 ghost use Rattle.image.specs.Reading.{read_code};
-ghost use Rattle.image.specs.Writing.{writeCode};
-ghost use Rattle.image_exports.specs.Calls.{writeImage, readImage};
+ghost use Rattle.image.specs.Writing.{write_code};
+ghost use Rattle.image_exports.specs.Calls.{write_image, read_image};
 
 use exports::{FULL, MALFORMED, NO_PLACE, NOT_SOUND};
 use image::{ImageWrite, Reading};
@@ -10,7 +10,7 @@ use ledger_numbers::LEDGER;
 
 // The bytes written, or the refusal's number.
 fn write_code(w: ImageWrite) -> u64
-    ensures { result ≡ writeCode w }
+    ensures { result ≡ write_code w }
 {
     match w {
         ImageWrite::Written(n) => n as u64,
@@ -33,7 +33,7 @@ fn read_code(reading: Reading) -> u64
 // Writes the image of the ledger that the numbers say at the start of `out`.
 #[unsafe(no_mangle)]
 pub extern "C" fn cuudhaqil_write_image(ledger: &[u64], out: &mut [u8]) -> u64
-    ensures { writeImage ledger.now out.old ≡ record { answer = result; left = out.new } }
+    ensures { write_image ledger.now out.old ≡ record { answer = result; left = out.new } }
 {
     if ledger.len() < LEDGER {
         return NO_PLACE;
@@ -45,7 +45,7 @@ pub extern "C" fn cuudhaqil_write_image(ledger: &[u64], out: &mut [u8]) -> u64
 // Reads all the bytes as one image: the ledger's numbers, or the fresh one's beside a refusal.
 #[unsafe(no_mangle)]
 pub extern "C" fn cuudhaqil_read_image(image: &[u8], ledger: &mut [u64]) -> u64
-    ensures { readImage image.now ledger.old ≡ record { answer = result; left = ledger.new } }
+    ensures { read_image image.now ledger.old ≡ record { answer = result; left = ledger.new } }
 {
     if ledger.len() < LEDGER {
         return NO_PLACE;

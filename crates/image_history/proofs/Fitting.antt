@@ -17,31 +17,31 @@ use Rattle.rules.specs.declared.Object.{Object}
 use Rattle.rules.specs.declared.Hold.{Hold}
 use Rattle.rules.specs.Lists.{◌∈◌, all, keep, maximum}
 use Rattle.rules.specs.Limits.{Limits, limits}
-use Rattle.rules.specs.State.{Manifest, State, free, freshIn, fresh, occupied, objects, kept, epochOf}
+use Rattle.rules.specs.State.{Manifest, State, free, fresh_in, fresh, occupied, objects, kept, epoch_of}
 use Rattle.rules.specs.Words.{live, dead}
 use Rattle.rules.specs.Request.{Request, Asked, Unreadable, Ask}
 use Rattle.rules.specs.Table.{row6, rows}
-use Rattle.rules.specs.Step.{withHolds, settle, tidy, mark, publish, fence, put, insertHold, renewed, other, clear, collected, collect, act, effect, rows_of, accepts, next}
+use Rattle.rules.specs.Step.{with_holds, settle, tidy, mark, publish, fence, put, insert_hold, renewed, other, clear, collected, collect, act, effect, rows_of, accepts, next}
 use Rattle.rules.specs.Sound.{sound}
-use Rattle.rules.specs.Demand3.{ledgerFrom, ledgerOf}
-use Rattle.rules.proofs.Lists.{and_left, and_right, and_both, in_all, keep-in, in-keep}
-use Rattle.rules.proofs.Numbers.{sorted-in}
-use Rattle.rules.proofs.Ordered.{ordered-sum}
+use Rattle.rules.specs.Demand3.{ledger_from, ledger_of}
+use Rattle.rules.proofs.Lists.{and_left, and_right, and_both, in_all, keep_in, in_keep}
+use Rattle.rules.proofs.Numbers.{sorted_in}
+use Rattle.rules.proofs.Ordered.{ordered_sum}
 use Rattle.rules.proofs.Shape.{Shape, Named, shape_of, held_of}
 use Rattle.rules.proofs.SoundEnds.{current-kept}
 use Rattle.rules.proofs.Settle.{tidy-back}
 use Rattle.rules.proofs.Put.{place-from}
-use Rattle.rules.proofs.Holds.{insertHold-from}
+use Rattle.rules.proofs.Holds.{insert_hold-from}
 use Rattle.rules.proofs.Table.{Clear, cleared}
-use Rattle.rules.proofs.Soundness.{sound-fresh, ledger-from-sound}
+use Rattle.rules.proofs.Soundness.{sound-fresh, ledger_from-sound}
 use Rattle.records.specs.declared.Field.{Field}
-use Rattle.records.specs.Format.{roleCode}
+use Rattle.records.specs.Format.{role_code}
 use Rattle.records.specs.Steps.{fields_of}
-use Rattle.records.specs.RoundTrip.{fits as fieldFits}
+use Rattle.records.specs.RoundTrip.{fits as field_fits}
 use Rattle.image.specs.Fit.{fits}
-use Rattle.image.specs.Format.{objectRow, flag, objectCells, manifestRow, manifestCells, holdRow, holdCells}
+use Rattle.image.specs.Format.{object_row, flag, object_cells, manifest_row, manifest_cells, hold_row, hold_cells}
 use Rattle.image.specs.RoundTrip.{Fits}
-use Rattle.image_history.specs.AfterLoad.{requestFits, askFits}
+use Rattle.image_history.specs.AfterLoad.{request_fits, ask_fits}
 
 -- ---- numbers within their widths, as facts and not as a test
 
@@ -62,12 +62,12 @@ within-fits (w ∷ ws) (n ∷ ns) h = and_both (ltb n (256 ^ w)) (fits ws ns) (l
 abbrev Fields : List Field → Type 0
 Fields fs = Within (map (λ (f : Field). f.width) fs) (map (λ (f : Field). f.number) fs)
 
-fields_within : (fs : List Field) → all fieldFits fs ≡ true → Fields fs
+fields_within : (fs : List Field) → all field_fits fs ≡ true → Fields fs
 unfolding all
 fields_within [] e = tt
-fields_within (f ∷ fs) e = (ltb-true f.number (256 ^ f.width) (and_left (fieldFits f) _ e), fields_within fs (and_right (fieldFits f) (all fieldFits fs) e))
+fields_within (f ∷ fs) e = (ltb-true f.number (256 ^ f.width) (and_left (field_fits f) _ e), fields_within fs (and_right (field_fits f) (all field_fits fs) e))
 
-role-within : (r : Role) → roleCode r < 256 ^ 1
+role-within : (r : Role) → role_code r < 256 ^ 1
 role-within Writer = omega arith
 role-within Compactor = omega arith
 
@@ -82,7 +82,7 @@ Short x = (x.number < 2 ^ 64) × (x.expiry < 2 ^ 64)
 
 record Narrow (s : State) : Type 0 where
   clock : s.clock < 2 ^ 64
-  collected : s.highestCollected < 2 ^ 64
+  collected : s.highest_collected < 2 ^ 64
   objects : (o : Object) → o ∈ s.places → o.number < 2 ^ 64
   manifests : (m : Manifest) → m ∈ kept s → m.number < 2 ^ 64
   holds : (x : Hold) → x ∈ s.holds → Short x
@@ -92,25 +92,25 @@ module _ (L : Limits) (s : State) (good : sound L s ≡ true) (r : Narrow s) whe
   shape = shape_of L s good
 
   -- the two epochs of a kept manifest add to at most its number
-  manifest-within : (m : Manifest) → m ∈ kept s → Within manifestRow.widths (manifestCells m).numbers
-  manifest-within m i = let a = r.manifests m i in let b = ordered-sum 0 0 0 (kept s) m shape.ordered i in omega arith
+  manifest-within : (m : Manifest) → m ∈ kept s → Within manifest_row.widths (manifest_cells m).numbers
+  manifest-within m i = let a = r.manifests m i in let b = ordered_sum 0 0 0 (kept s) m shape.ordered i in omega arith
 
-  epoch-narrow : (role : Role) → epochOf role s.current < 2 ^ 64
+  epoch-narrow : (role : Role) → epoch_of role s.current < 2 ^ 64
   epoch-narrow Writer = (manifest-within s.current (current-kept s)).1.0
   epoch-narrow Compactor = (manifest-within s.current (current-kept s)).1.1.0
 
   -- a place is free, or its object's epoch is at most its role's
-  object-within : (o : Object) → o ∈ s.places → Within objectRow.widths (objectCells 0 o).numbers
+  object-within : (o : Object) → o ∈ s.places → Within object_row.widths (object_cells 0 o).numbers
   object-within o i = step (occupied o) refl
     where
-      step : (b : Bool) → occupied o ≡ b → Within objectRow.widths (objectCells 0 o).numbers
+      step : (b : Bool) → occupied o ≡ b → Within object_row.widths (object_cells 0 o).numbers
       step true e =
-          let k = shape.stored o (in-keep occupied i e) in
+          let k = shape.stored o (in_keep occupied i e) in
           (omega arith, (r.objects o i, (role-within o.role, (omega (arith, k.epoch, epoch-narrow o.role), (omega (arith, k.currency), (flag-within o.named, tt))))))
-      step false e = subst (λ (x : Object). Within objectRow.widths (objectCells 0 x).numbers) (sym (shape.unused o i e)) (omega arith)
+      step false e = subst (λ (x : Object). Within object_row.widths (object_cells 0 x).numbers) (sym (shape.unused o i e)) (omega arith)
 
   -- a hold names a kept manifest
-  hold-within : (x : Hold) → x ∈ s.holds → Within holdRow.widths (holdCells x).numbers
+  hold-within : (x : Hold) → x ∈ s.holds → Within hold_row.widths (hold_cells x).numbers
   hold-within x i = let k = shape.holds x i in let a = r.manifests k.0 k.1 in let b = r.holds x i in omega (arith, k.2)
 
   -- a kept manifest is current or held, so its names are those of stored objects
@@ -118,19 +118,19 @@ module _ (L : Limits) (s : State) (good : sound L s ≡ true) (r : Narrow s) whe
   kept-named m (inl i) = let k = held_of L s good m i in shape.held k.0 k.1 m (Memᴰ.append_left (s.current ∷ []) i) k.2
   kept-named m (inr i) = subst (λ (m : Manifest). Named (objects s) m.names) (sym (Memᴰ.eq_of_singleton i)) shape.current
 
-  name-narrow : (m : Manifest) → m ∈ kept s → (n : ℕ) → n ∈ m.names → n < 2 ^ 64
-  name-narrow m i n j =
+  name_narrow : (m : Manifest) → m ∈ kept s → (n : ℕ) → n ∈ m.names → n < 2 ^ 64
+  name_narrow m i n j =
       let k = kept-named m (Memᴰ.append_cases s.older i) n j in
-      subst (λ n. n < 2 ^ 64) k.2 (r.objects k.0 (keep-in occupied s.places k.1).0)
+      subst (λ n. n < 2 ^ 64) k.2 (r.objects k.0 (keep_in occupied s.places k.1).0)
 
   narrow-fits : Fits s
   narrow-fits = record {
     clock = r.clock;
     collected = r.collected;
-    objects = λ o i. within-fits objectRow.widths (objectCells 0 o).numbers (object-within o i);
-    manifests = λ m i. within-fits manifestRow.widths (manifestCells m).numbers (manifest-within m i);
-    names = λ m i. in_all (λ n. ltb n (2 ^ 64)) m.names (λ n j. lt-ltb n (2 ^ 64) (name-narrow m i n j));
-    holds = λ x i. within-fits holdRow.widths (holdCells x).numbers (hold-within x i);
+    objects = λ o i. within-fits object_row.widths (object_cells 0 o).numbers (object-within o i);
+    manifests = λ m i. within-fits manifest_row.widths (manifest_cells m).numbers (manifest-within m i);
+    names = λ m i. in_all (λ n. ltb n (2 ^ 64)) m.names (λ n j. lt-ltb n (2 ^ 64) (name_narrow m i n j));
+    holds = λ x i. within-fits hold_row.widths (hold_cells x).numbers (hold-within x i);
   }
 
 -- ---- what the kinds do to lists
@@ -188,17 +188,17 @@ module _ (s : State) (r : Narrow s) where
     holds = r.holds;
   }
 
-  holds-narrow : (xs : List Hold) → ((x : Hold) → x ∈ xs → Short x) → Narrow (withHolds s xs)
+  holds-narrow : (xs : List Hold) → ((x : Hold) → x ∈ xs → Short x) → Narrow (with_holds s xs)
   holds-narrow xs h = record { clock = r.clock; collected = r.collected; objects = r.objects; manifests = r.manifests; holds = h }
 
-  hold-narrow : (x : Hold) → Short x → Narrow (withHolds s (insertHold x s.holds))
-  hold-narrow x h = holds-narrow _ (λ y i. either Short h r.holds (insertHold-from x y s.holds i))
+  hold-narrow : (x : Hold) → Short x → Narrow (with_holds s (insert_hold x s.holds))
+  hold-narrow x h = holds-narrow _ (λ y i. either Short h r.holds (insert_hold-from x y s.holds i))
 
-  renew-narrow : (n e : ℕ) → e < 2 ^ 64 → Narrow (withHolds s (map (renewed n e) s.holds))
-  renew-narrow n e h = holds-narrow _ (mapped Short (renewed n e) s.holds (λ x i. renewed-short n e h x (r.holds x i)))
+  renew_narrow : (n e : ℕ) → e < 2 ^ 64 → Narrow (with_holds s (map (renewed n e) s.holds))
+  renew_narrow n e h = holds-narrow _ (mapped Short (renewed n e) s.holds (λ x i. renewed-short n e h x (r.holds x i)))
 
-  release-narrow : (n : ℕ) → Narrow (withHolds s (keep (other n) s.holds))
-  release-narrow n = holds-narrow _ (λ x i. r.holds x (keep-in (other n) s.holds i).0)
+  release_narrow : (n : ℕ) → Narrow (with_holds s (keep (other n) s.holds))
+  release_narrow n = holds-narrow _ (λ x i. r.holds x (keep_in (other n) s.holds i).0)
 
   -- a place is free now, or as it was
   clear-narrow : (o : Object) → o ∈ s.places → (clear s.clock s o).number < 2 ^ 64
@@ -213,12 +213,12 @@ module _ (s : State) (r : Narrow s) where
   unfolding collected
   collected-narrow n i =
       mapped (λ n. n < 2 ^ 64) (λ (o : Object). o.number) (keep (dead s.clock s) (objects s))
-      (λ o j. r.objects o (keep-in occupied s.places (keep-in (dead s.clock s) (objects s) j).0).0) n (sorted-in _ i)
+      (λ o j. r.objects o (keep_in occupied s.places (keep_in (dead s.clock s) (objects s) j).0).0) n (sorted_in _ i)
 
   collect-narrow : Narrow (collect s)
   collect-narrow = record {
     clock = r.clock;
-    collected = maximum-below (2 ^ 64) (s.highestCollected ∷ collected s.clock s) (omega arith) (λ n i. either (λ n. n < 2 ^ 64) r.collected collected-narrow (Memᴰ.cases_cons i));
+    collected = maximum-below (2 ^ 64) (s.highest_collected ∷ collected s.clock s) (omega arith) (λ n i. either (λ n. n < 2 ^ 64) r.collected collected-narrow (Memᴰ.cases_cons i));
     objects = mapped (λ (o : Object). o.number < 2 ^ 64) (clear s.clock s) s.places clear-narrow;
     manifests = r.manifests;
     holds = r.holds;
@@ -233,7 +233,7 @@ module _ (L : Limits) (s : State) (r : Narrow s) (t : ℕ) (l : List ℕ) where
     collected = r.collected;
     objects = r.objects;
     manifests = r.manifests;
-    holds = λ x i. r.holds x (keep-in (live t) s.holds i).0;
+    holds = λ x i. r.holds x (keep_in (live t) s.holds i).0;
   }
 
   act-narrow : (k : Kind) → Clear (rows L s t k l) → Fields (fields_of t k) → Narrow (act k l (settle t s))
@@ -243,18 +243,18 @@ module _ (L : Limits) (s : State) (r : Narrow s) (t : ℕ) (l : List ℕ) where
   act-narrow (COMMIT e slot) f w = publish-narrow (settle t s) (settled w.0) slot f.1.1.1.1.0 w.1.1.0 _ _ _
   act-narrow (COMPACT e slot n) f w = publish-narrow (settle t s) (settled w.0) slot f.1.1.1.1.0 w.1.1.0 _ _ _
   act-narrow (HOLD x m e) f w = hold-narrow (settle t s) (settled w.0) _ (w.1.0, w.1.1.1.0)
-  act-narrow (RENEW x e) f w = renew-narrow (settle t s) (settled w.0) x e w.1.1.0
-  act-narrow (RELEASE x) f w = release-narrow (settle t s) (settled w.0) x
+  act-narrow (RENEW x e) f w = renew_narrow (settle t s) (settled w.0) x e w.1.1.0
+  act-narrow (RELEASE x) f w = release_narrow (settle t s) (settled w.0) x
   act-narrow (LIST x) f w = settled w.0
   act-narrow (LOOK c x) f w = settled w.0
   act-narrow COLLECT f w = collect-narrow (settle t s) (settled w.0)
 
 module _ (L : Limits) (test : State → Bool) where
-  effect-narrow : (s : State) (q : Request) → Clear (rows_of L test s q) → Narrow s → requestFits q ≡ true → Narrow (effect q s)
-  effect-narrow s (Asked t k l) f r e = tidy-narrow _ (act-narrow L s r t l k f.1 (fields_within (fields_of t k) (and_left (all fieldFits (fields_of t k)) _ e)))
+  effect-narrow : (s : State) (q : Request) → Clear (rows_of L test s q) → Narrow s → request_fits q ≡ true → Narrow (effect q s)
+  effect-narrow s (Asked t k l) f r e = tidy-narrow _ (act-narrow L s r t l k f.1 (fields_within (fields_of t k) (and_left (all field_fits (fields_of t k)) _ e)))
   effect-narrow s Unreadable f r e = r
 
-  next-narrow : (s : State) (a : Ask) → Narrow s → askFits a ≡ true → Narrow (next L test s a)
+  next-narrow : (s : State) (a : Ask) → Narrow s → ask_fits a ≡ true → Narrow (next L test s a)
   unfolding next
   next-narrow s a r e = step (accepts L test s a) refl
     where
@@ -262,27 +262,27 @@ module _ (L : Limits) (test : State → Bool) where
       step true q = effect-narrow s a.request (cleared L test s a q) r e
       step false q = r
 
-  ledger-from-narrow : (s : State) (qs : List Ask) → Narrow s → all askFits qs ≡ true → Narrow (ledgerFrom L test s qs)
-  unfolding ledgerFrom all
-  ledger-from-narrow s [] r e = r
-  ledger-from-narrow s (a ∷ qs) r e = ledger-from-narrow _ qs (next-narrow s a r (and_left (askFits a) (all askFits qs) e)) (and_right (askFits a) (all askFits qs) e)
+  ledger_from-narrow : (s : State) (qs : List Ask) → Narrow s → all ask_fits qs ≡ true → Narrow (ledger_from L test s qs)
+  unfolding ledger_from all
+  ledger_from-narrow s [] r e = r
+  ledger_from-narrow s (a ∷ qs) r e = ledger_from-narrow _ qs (next-narrow s a r (and_left (ask_fits a) (all ask_fits qs) e)) (and_right (ask_fits a) (all ask_fits qs) e)
 
 -- ---- from the fresh ledger on
 
-replicate-in : {A : Type 0} (n : ℕ) (x y : A) → y ∈ replicate n x → y ≡ x
-replicate-in zero x y i = absurd (Memᴰ.not-nil i)
-replicate-in (suc n) x y i = ⊎_elim (λ e. e) (replicate-in n x y) (Memᴰ.cases_cons i)
+replicate_in : {A : Type 0} (n : ℕ) (x y : A) → y ∈ replicate n x → y ≡ x
+replicate_in zero x y i = absurd (Memᴰ.not-nil i)
+replicate_in (suc n) x y i = ⊎_elim (λ e. e) (replicate_in n x y) (Memᴰ.cases_cons i)
 
-fresh-narrow : (L : Limits) → Narrow (freshIn L)
+fresh-narrow : (L : Limits) → Narrow (fresh_in L)
 fresh-narrow L = record {
   clock = omega arith;
   collected = omega arith;
-  objects = λ o i. let e = ap (λ (o : Object). o.number) (replicate-in L.places free o i) in omega arith;
+  objects = λ o i. let e = ap (λ (o : Object). o.number) (replicate_in L.places free o i) in omega arith;
   manifests = λ m i. let e = ap (λ (m : Manifest). m.number) (Memᴰ.eq_of_singleton i) in omega arith;
   holds = λ x i. absurd (Memᴰ.not-nil i);
 }
 
-pub asked-fits : (qs : List Ask) → all askFits qs ≡ true → Fits (ledgerOf qs)
+pub asked-fits : (qs : List Ask) → all ask_fits qs ≡ true → Fits (ledger_of qs)
 asked-fits qs f =
-    narrow-fits limits (ledgerOf qs) (ledger-from-sound limits (sound limits) fresh qs (sound-fresh limits))
-    (ledger-from-narrow limits (sound limits) fresh qs (fresh-narrow limits) f)
+    narrow-fits limits (ledger_of qs) (ledger_from-sound limits (sound limits) fresh qs (sound-fresh limits))
+    (ledger_from-narrow limits (sound limits) fresh qs (fresh-narrow limits) f)

@@ -9,7 +9,7 @@ use Rattle.records.specs.Steps.{fields_of}
 use Rattle.records.specs.RoundTrip.{all_fit}
 use Rattle.ledger.specs.declared.Ledger.{Ledger}
 use Rattle.ledger.specs.Ledger.{lay, view}
-use Rattle.ledger.specs.Demand3.{keptAfter, ledgerAfter, Delivered}
+use Rattle.ledger.specs.Demand3.{kept_after, ledger_after, Delivered}
 use Rattle.image.specs.declared.Reading.{Reading}
 use Rattle.image.specs.declared.Reading.TheVariants.{Read, Unsound, Malformed}
 use Rattle.image.specs.declared.ImageRead.{ImageRead}
@@ -29,16 +29,16 @@ pub record Kept : Type 0 where
   pub images : List (List ℕ)
 
 -- the ledger that was read, or the one that was there where the reader refuses
-abbrev pub takenBy : Reading → Ledger → Ledger → Ledger
-takenBy Read l old = l
-takenBy Unsound l old = old
-takenBy Malformed l old = old
+abbrev pub taken_by : Reading → Ledger → Ledger → Ledger
+taken_by Read l old = l
+taken_by Unsound l old = old
+taken_by Malformed l old = old
 
 abbrev pub loaded : ImageRead → Ledger → Ledger
-loaded r old = takenBy r.reading r.ledger old
+loaded r old = taken_by r.reading r.ledger old
 
 abbrev pub done : Event → Kept → Kept
-done (asks a) k = record { ledger = keptAfter k.ledger a; images = k.images }
+done (asks a) k = record { ledger = kept_after k.ledger a; images = k.images }
 done saves k = record { ledger = k.ledger; images = image_of (view k.ledger) ∷ k.images }
 done (loads n) k = record { ledger = loaded (read_of (get_or k.images n [])) k.ledger; images = k.images }
 
@@ -53,37 +53,37 @@ walked (asks a) p = record { asked = p.asked ++ a ∷ []; saved = p.saved }
 walked saves p = record { asked = p.asked; saved = p.asked ∷ p.saved }
 walked (loads n) p = record { asked = cond (ltb n (length p.saved)) (get_or p.saved n []) p.asked; saved = p.saved }
 
-unfoldable pub keptAll : Kept → List Event → Kept
-keptAll k [] = k
-keptAll k (e ∷ es) = keptAll (done e k) es
+unfoldable pub kept_all : Kept → List Event → Kept
+kept_all k [] = k
+kept_all k (e ∷ es) = kept_all (done e k) es
 
-unfoldable pub pathAll : Path → List Event → Path
-pathAll p [] = p
-pathAll p (e ∷ es) = pathAll (walked e p) es
+unfoldable pub path_all : Path → List Event → Path
+path_all p [] = p
+path_all p (e ∷ es) = path_all (walked e p) es
 
 abbrev pub at_start : Kept
 at_start = record { ledger = lay fresh; images = [] }
 
-abbrev pub noSteps : Path
-noSteps = record { asked = []; saved = [] }
+abbrev pub no_steps : Path
+no_steps = record { asked = []; saved = [] }
 
 -- a step's numbers fit their fields, as the types of what is asked have it
-abbrev pub requestFits : Request → Bool
-requestFits (Asked t k l) = all_fit (fields_of t k) l
-requestFits Unreadable = true
+abbrev pub request_fits : Request → Bool
+request_fits (Asked t k l) = all_fit (fields_of t k) l
+request_fits Unreadable = true
 
-abbrev pub askFits : Ask → Bool
-askFits a = requestFits a.request
+abbrev pub ask_fits : Ask → Bool
+ask_fits a = request_fits a.request
 
-abbrev pub eventFits : Event → Bool
-eventFits (asks a) = askFits a
-eventFits saves = true
-eventFits (loads n) = true
+abbrev pub event_fits : Event → Bool
+event_fits (asks a) = ask_fits a
+event_fits saves = true
+event_fits (loads n) = true
 
 -- the ledger is the one that the path's steps leave, so that all that is delivered of a sequence of steps (demand 3 with its history) is delivered here
 pub record Follows (k : Kept) (p : Path) : Type 0 where
-  pub ledger : k.ledger ≡ ledgerAfter (lay fresh) p.asked
+  pub ledger : k.ledger ≡ ledger_after (lay fresh) p.asked
   pub delivered : Delivered p.asked
 
 abbrev pub AfterLoad : Type 0
-AfterLoad = (es : List Event) → all eventFits es ≡ true → Follows (keptAll at_start es) (pathAll noSteps es)
+AfterLoad = (es : List Event) → all event_fits es ≡ true → Follows (kept_all at_start es) (path_all no_steps es)

@@ -10,32 +10,32 @@ use lib.ListN.{length, take, get_or, replicate, length-append, length-map}
 use lib.Seq.{append_snoc, take-append_seam, get_or-append_seam}
 use mir.Val.{Val}
 use denote.Laws.{Is}
-use Rattle.rules.specs.Limits.{limits, manifestLimit}
+use Rattle.rules.specs.Limits.{limits, manifest_limit}
 use Rattle.rules.specs.State.{Manifest, State, kept}
 use Rattle.rules.specs.Sound.{sound}
 use Rattle.rules.proofs.Lists.{and_both, all_in, in_all, true-conj}
 use Rattle.rules.proofs.Shape.{shape_of}
-use Rattle.rules.proofs.Bounds.{nine-enough}
+use Rattle.rules.proofs.Bounds.{nine_enough}
 use Rattle.arrays.specs.Arrays.{pad}
 use Rattle.arrays.proofs.Lists.{map-append}
 use Rattle.objects.proofs.Places as places
 use Rattle.manifests.specs.declared.KeptManifest.{KeptManifest}
-use Rattle.manifests.specs.Manifests.{layManifest, manifestOf, noManifest, pastEnd, layManifests, currentOf, olderOf}
+use Rattle.manifests.specs.Manifests.{lay_manifest, manifest_of, no_manifest, past_end, lay_manifests, current_of, older_of}
 use Rattle.manifests.proofs.Places as lists
-use Rattle.manifests.proofs.Places.{hasRoom, of-lay}
+use Rattle.manifests.proofs.Places.{has_room, of_lay}
 use Rattle.holds.proofs.Places as holds
 use Rattle.ledger.specs.declared.Ledger.{Ledger}
-use Rattle.ledger.specs.Ledger.{lay, view, isLaidOut, isSound}
+use Rattle.ledger.specs.Ledger.{lay, view, is_laid_out, is_sound}
 use Rattle.ledger.specs.SoundLaw.{Whole, SoundLayout}
-use Rattle.ledger.proofs.View.{Sized, sized, sound-parts, sound-view, laid_out}
+use Rattle.ledger.proofs.View.{Sized, sized, sound_parts, sound-view, laid_out}
 use Rattle.ledger.specs.contracts.Ledger as ledger
 
 -- The type says what Whole says
 
-whole-sized : (l : Ledger) → Whole l → Sized l
-whole-sized l w = record {
+whole_sized : (l : Ledger) → Whole l → Sized l
+whole_sized l w = record {
   objects = w.objects;
-  manifests = record { items = w.manifests; names = in_all hasRoom l.manifests.items (λ m i. eq-eqb _ _ (w.names m i)) };
+  manifests = record { items = w.manifests; names = in_all has_room l.manifests.items (λ m i. eq-eqb _ _ (w.names m i)) };
   holds = w.holds;
 }
 
@@ -45,7 +45,7 @@ whole l vs is =
     record {
       objects = s.objects;
       manifests = s.manifests.items;
-      names = λ m i. eqb-true _ _ (all_in hasRoom s.manifests.names i);
+      names = λ m i. eqb-true _ _ (all_in has_room s.manifests.names i);
       holds = s.holds;
     }
 
@@ -53,35 +53,35 @@ whole l vs is =
 
 module _ (s : State) where
   rest : List KeptManifest
-  rest = replicate (manifestLimit limits - length (map layManifest (kept s))) noManifest
+  rest = replicate (manifest_limit limits - length (map lay_manifest (kept s))) no_manifest
 
-  kept-places : (layManifests (kept s)).items ≡ map layManifest s.older ++ (layManifest s.current ∷ rest)
+  kept-places : (lay_manifests (kept s)).items ≡ map lay_manifest s.older ++ (lay_manifest s.current ∷ rest)
   unfolding pad rest
   kept-places =
-      ap (λ (l : List KeptManifest). l ++ rest) (map-append layManifest s.older (s.current ∷ []))
-      ∙ append_snoc (map layManifest s.older) (layManifest s.current) rest
+      ap (λ (l : List KeptManifest). l ++ rest) (map-append lay_manifest s.older (s.current ∷ []))
+      ∙ append_snoc (map lay_manifest s.older) (lay_manifest s.current) rest
 
-  last-place : length (kept s) - 1 ≡ length (map layManifest s.older)
-  last-place = omega (arith, length-append s.older (s.current ∷ []), length-map s.older layManifest)
+  last-place : length (kept s) - 1 ≡ length (map lay_manifest s.older)
+  last-place = omega (arith, length-append s.older (s.current ∷ []), length-map s.older lay_manifest)
 
-  older-back : olderOf (layManifests (kept s)) ≡ s.older
+  older-back : older_of (lay_manifests (kept s)) ≡ s.older
   older-back =
-      ap₂ (λ (n : ℕ) (l : List KeptManifest). map manifestOf (take n l)) last-place kept-places
-      ∙ ap (map manifestOf) (take-append_seam (map layManifest s.older) (layManifest s.current ∷ rest)) ∙ each s.older
+      ap₂ (λ (n : ℕ) (l : List KeptManifest). map manifest_of (take n l)) last-place kept-places
+      ∙ ap (map manifest_of) (take-append_seam (map lay_manifest s.older) (lay_manifest s.current ∷ rest)) ∙ each s.older
     where
-      each : (ms : List Manifest) → map manifestOf (map layManifest ms) ≡ ms
+      each : (ms : List Manifest) → map manifest_of (map lay_manifest ms) ≡ ms
       each [] = refl
-      each (m ∷ ms) = ap₂ ◌∷◌ (of-lay m) (each ms)
+      each (m ∷ ms) = ap₂ ◌∷◌ (of_lay m) (each ms)
 
-  current-back : manifestOf (currentOf (layManifests (kept s))) ≡ s.current
+  current-back : manifest_of (current_of (lay_manifests (kept s))) ≡ s.current
   current-back =
-      ap₂ (λ (n : ℕ) (l : List KeptManifest). manifestOf (get_or l n pastEnd)) last-place kept-places
-      ∙ ap manifestOf (get_or-append_seam (map layManifest s.older) (layManifest s.current) rest pastEnd) ∙ of-lay s.current
+      ap₂ (λ (n : ℕ) (l : List KeptManifest). manifest_of (get_or l n past_end)) last-place kept-places
+      ∙ ap manifest_of (get_or-append_seam (map lay_manifest s.older) (lay_manifest s.current) rest past_end) ∙ of_lay s.current
 
   pub view-lay : view (lay s) ≡ s
   view-lay = λ i. record {
     clock = s.clock;
-    highestCollected = s.highestCollected;
+    highest_collected = s.highest_collected;
     places = s.places;
     older = older-back i;
     current = current-back i;
@@ -90,23 +90,23 @@ module _ (s : State) where
 
   -- a sound state fits its places
   module _ (e : sound limits s ≡ true) where
-    pub lay-laid : isLaidOut (lay s) ≡ true
+    pub lay-laid : is_laid_out (lay s) ≡ true
     lay-laid =
         let r = shape_of limits s e in
         let long = length-append s.older (s.current ∷ []) in
         true-conj _ (
           places.lay-laid s.places,
-          (lists.lay-laid (kept s) (omega arith) (omega (arith, nine-enough limits s e)) r.short, (holds.lay-laid s.holds r.few, tt)),
+          (lists.lay-laid (kept s) (omega arith) (omega (arith, nine_enough limits s e)) r.short, (holds.lay-laid s.holds r.few, tt)),
         )
 
-    pub lay-sound : isSound (lay s) ≡ true
-    unfolding isSound
-    lay-sound = and_both (isLaidOut (lay s)) _ lay-laid (ap (sound limits) view-lay ∙ e)
+    pub lay-sound : is_sound (lay s) ≡ true
+    unfolding is_sound
+    lay-sound = and_both (is_laid_out (lay s)) _ lay-laid (ap (sound limits) view-lay ∙ e)
 
-pub sound-law : SoundLayout
-sound-law = record {
+pub sound_law : SoundLayout
+sound_law = record {
   laid = lay-sound;
   said = view-lay;
   state = sound-view;
-  same = λ l w e. laid_out l (whole-sized l w) (sound-parts l e);
+  same = λ l w e. laid_out l (whole_sized l w) (sound_parts l e);
 }

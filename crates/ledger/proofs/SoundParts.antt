@@ -12,22 +12,22 @@ use Rattle.rules.specs.declared.Role.{Role}
 use Rattle.rules.specs.declared.Role.TheVariants.{Writer, Compactor}
 use Rattle.rules.specs.declared.Object.{Object}
 use Rattle.rules.specs.Limits.{limits}
-use Rattle.rules.specs.Lists.{◌∈◌, conj, all, distinct, risingAbove}
-use Rattle.rules.specs.State.{Manifest, epochOf, kept}
+use Rattle.rules.specs.Lists.{◌∈◌, conj, all, distinct, rising_above}
+use Rattle.rules.specs.State.{Manifest, epoch_of, kept}
 use Rattle.rules.specs.Words.{live}
-use Rattle.rules.specs.Step.{heldBy}
-use Rattle.rules.specs.Sound.{sound, objectSound, placeSound, ordered, nameSound, manifestSound, holdSound, is_held}
-use Rattle.rules.proofs.Lists.{and_left, and_right, and_both, bool-ext, conj-true, true-conj}
-use Rattle.objects.specs.Objects.{roleEpoch, placeSoundBy, numbersIn}
+use Rattle.rules.specs.Step.{held_by}
+use Rattle.rules.specs.Sound.{sound, object_sound, place_sound, ordered, name_sound, manifest_sound, hold_sound, is_held}
+use Rattle.rules.proofs.Lists.{and_left, and_right, and_both, bool_ext, conj-true, true-conj}
+use Rattle.objects.specs.Objects.{role_epoch, place_sound_by, numbers_in}
 use Rattle.manifests.specs.declared.KeptManifest.{KeptManifest}
-use Rattle.manifests.specs.Manifests.{manifestOf, manifestsOf, currentOf, olderOf}
+use Rattle.manifests.specs.Manifests.{manifest_of, manifests_of, current_of, older_of}
 use Rattle.manifests.proofs.Places.{kept-short}
 use Rattle.holds.specs.Holds.{holds_of, numbers}
 use Rattle.holds.proofs.Places.{few}
 use Rattle.ledger.specs.declared.Ledger.{Ledger}
-use Rattle.ledger.specs.Ledger.{view, isLaidOut, isSound}
-use Rattle.ledger.specs.Parts.{objectsSound, listSound, manifestsSound, holdKept, holdsSound}
-use Rattle.ledger.proofs.View.{Sized, Laid, laid-parts, kept-view}
+use Rattle.ledger.specs.Ledger.{view, is_laid_out, is_sound}
+use Rattle.ledger.specs.Parts.{objects_sound, list_sound, manifests_sound, hold_kept, holds_sound}
+use Rattle.ledger.proofs.View.{Sized, Laid, laid_parts, kept-view}
 
 -- A test of every element
 
@@ -37,10 +37,10 @@ module _ {A : Type 0} (p q : A → Bool) where
   all_same [] f = refl
   all_same (x ∷ xs) f = rw (f x (Memᴰ.head refl), all_same xs (λ y m. f y (Memᴰ.tail m)))
 
-  all-and : (l : List A) → all (λ x. p x && q x) l ≡ (all p l && all q l)
+  all_and : (l : List A) → all (λ x. p x && q x) l ≡ (all p l && all q l)
   unfolding all
-  all-and [] = refl
-  all-and (x ∷ xs) = rw (all-and xs) (swap (p x) (q x) (all p xs))
+  all_and [] = refl
+  all_and (x ∷ xs) = rw (all_and xs) (swap (p x) (q x) (all p xs))
     where
       swap : (a b c : Bool) → ((a && b) && (c && all q xs)) ≡ ((a && c) && (b && all q xs))
       swap true true c = refl
@@ -55,7 +55,7 @@ all_map f p (x ∷ xs) = ap (λ (b : Bool). p (f x) && b) (all_map f p xs)
 -- The nine tests in three parts; the numbers of places and of holds are known
 regroup : (a b c d e f g h : Bool) → conj (true ∷ a ∷ b ∷ c ∷ d ∷ e ∷ true ∷ (f && g) ∷ h ∷ []) ≡ (conj (a ∷ b ∷ []) && (conj (c ∷ d ∷ h ∷ []) && conj (e ∷ f ∷ g ∷ [])))
 regroup a b c d e f g h =
-    bool-ext _ _
+    bool_ext _ _
     (λ t.
     let k = conj-true _ t in
     let fg = k.1.1.1.1.1.1.1.0 in
@@ -71,51 +71,51 @@ regroup a b c d e f g h =
 
 -- Each test, of the view and of the places
 
-epoch-same : (r : Role) (m : KeptManifest) → epochOf r (manifestOf m) ≡ roleEpoch r m.writer m.compactor
+epoch-same : (r : Role) (m : KeptManifest) → epoch_of r (manifest_of m) ≡ role_epoch r m.writer m.compactor
 epoch-same Writer m = refl
 epoch-same Compactor m = refl
 
-place_same : (l : Ledger) (o : Object) → placeSound (view l) o ≡ placeSoundBy (currentOf l.manifests).writer (currentOf l.manifests).compactor o
-unfolding placeSound objectSound placeSoundBy
-place_same l o = rw (epoch-same o.role (currentOf l.manifests))
+place_same : (l : Ledger) (o : Object) → place_sound (view l) o ≡ place_sound_by (current_of l.manifests).writer (current_of l.manifests).compactor o
+unfolding place_sound object_sound place_sound_by
+place_same l o = rw (epoch-same o.role (current_of l.manifests))
 
 -- a list has at most as many names as it has room for
-list_same : (l : Ledger) (m : KeptManifest) → length (manifestOf m).names ≤ limits.names → manifestSound limits (view l) (manifestOf m) ≡ listSound l.objects.items m
-unfolding manifestSound nameSound listSound conj
+list_same : (l : Ledger) (m : KeptManifest) → length (manifest_of m).names ≤ limits.names → manifest_sound limits (view l) (manifest_of m) ≡ list_sound l.objects.items m
+unfolding manifest_sound name_sound list_sound conj
 list_same l m h = rw (le-leb _ _ h)
 
 module _ (l : Ledger) (s : Sized l) (p : Laid l) where
-  lists-same : all (manifestSound limits (view l)) (kept (view l)) ≡ all (listSound l.objects.items) (take l.manifests.count l.manifests.items)
+  lists-same : all (manifest_sound limits (view l)) (kept (view l)) ≡ all (list_sound l.objects.items) (take l.manifests.count l.manifests.items)
   lists-same =
       let places = take l.manifests.count l.manifests.items in
-      ap (all (manifestSound limits (view l))) (kept-view l s p) ∙ all_map manifestOf (manifestSound limits (view l)) places
-      ∙ all_same (λ m. manifestSound limits (view l) (manifestOf m)) (listSound l.objects.items) places
-      (λ m i. list_same l m (kept-short s.manifests (manifestOf m) (Memᴰ.map manifestOf i)))
+      ap (all (manifest_sound limits (view l))) (kept-view l s p) ∙ all_map manifest_of (manifest_sound limits (view l)) places
+      ∙ all_same (λ m. manifest_sound limits (view l) (manifest_of m)) (list_sound l.objects.items) places
+      (λ m i. list_same l m (kept-short s.manifests (manifest_of m) (Memᴰ.map manifest_of i)))
 
-  holds_same : all (holdSound (view l)) (holds_of l.holds) ≡ (all (holdKept (manifestsOf l.manifests)) (holds_of l.holds) && all (live l.clock) (holds_of l.holds))
-  unfolding holdSound
+  holds_same : all (hold_sound (view l)) (holds_of l.holds) ≡ (all (hold_kept (manifests_of l.manifests)) (holds_of l.holds) && all (live l.clock) (holds_of l.holds))
+  unfolding hold_sound
   holds_same =
-      ap (λ (ms : List Manifest). all (λ x. holdKept ms x && live l.clock x) (holds_of l.holds)) (kept-view l s p)
-      ∙ all-and (holdKept (manifestsOf l.manifests)) (live l.clock) (holds_of l.holds)
+      ap (λ (ms : List Manifest). all (λ x. hold_kept ms x && live l.clock x) (holds_of l.holds)) (kept-view l s p)
+      ∙ all_and (hold_kept (manifests_of l.manifests)) (live l.clock) (holds_of l.holds)
 
   holds-few : length (holds_of l.holds) ≤ limits.holds
   holds-few = omega (arith, length-take l.holds.count l.holds.items, few l.holds p.holds)
 
-  pub sound-by-parts : sound limits (view l) ≡ (objectsSound l && (manifestsSound l && holdsSound l))
-  unfolding sound is_held objectsSound manifestsSound holdsSound
-  sound-by-parts =
+  pub sound-by_parts : sound limits (view l) ≡ (objects_sound l && (manifests_sound l && holds_sound l))
+  unfolding sound is_held objects_sound manifests_sound holds_sound
+  sound-by_parts =
       (λ i. conj (eq-eqb (length l.objects.items) limits.places s.objects i
       ∷ all (λ o. place_same l o i) l.objects.items
-      ∷ distinct (numbersIn l.objects.items)
+      ∷ distinct (numbers_in l.objects.items)
       ∷ ordered 0 0 0 (kept-view l s p i)
       ∷ lists-same i
-      ∷ risingAbove 0 (numbers (holds_of l.holds))
+      ∷ rising_above 0 (numbers (holds_of l.holds))
       ∷ le-leb (length (holds_of l.holds)) limits.holds holds-few i
       ∷ holds_same i
-      ∷ all (heldBy (holds_of l.holds)) (olderOf l.manifests) ∷ []))
+      ∷ all (held_by (holds_of l.holds)) (older_of l.manifests) ∷ []))
       ∙ regroup _ _ _ _ _ _ _ _
 
 -- row 1's test, once the layout is known
-pub laid-sound : (l : Ledger) → Sized l → isLaidOut l ≡ true → isSound l ≡ (objectsSound l && (manifestsSound l && holdsSound l))
-unfolding isSound
-laid-sound l s e = ap (λ (b : Bool). b && sound limits (view l)) e ∙ sound-by-parts l s (laid-parts l e)
+pub laid-sound : (l : Ledger) → Sized l → is_laid_out l ≡ true → is_sound l ≡ (objects_sound l && (manifests_sound l && holds_sound l))
+unfolding is_sound
+laid-sound l s e = ap (λ (b : Bool). b && sound limits (view l)) e ∙ sound-by_parts l s (laid_parts l e)

@@ -9,33 +9,33 @@ use Rattle.rules.specs.State.{fresh}
 use Rattle.rules.specs.Sound.{sound}
 use Rattle.rules.specs.Request.{Request, Ask}
 use Rattle.rules.specs.Step.{size_of, reply}
-use Rattle.rules.specs.Typed.{requestOf, verdictOf}
-use Rattle.rules.specs.Demand3.{ledgerOf, Whole}
+use Rattle.rules.specs.Typed.{request_of, verdict_of}
+use Rattle.rules.specs.Demand3.{ledger_of, Whole}
 use Rattle.ledger.specs.declared.Ledger.{Ledger}
-use Rattle.ledger.specs.Ledger.{lay, isSound}
+use Rattle.ledger.specs.Ledger.{lay, is_sound}
 use Rattle.ledger.specs.Step.{judged}
 
 -- a step, any value of it, and the room for its verdict; a record's request is what its bytes say (crate replay)
 abbrev pub asked : Step → ℕ → Ask
-asked p room = record { request = requestOf p; room = room }
+asked p room = record { request = request_of p; room = room }
 
 -- the bytes of a verdict
-abbrev pub verdictSize : Verdict → ℕ
-verdictSize v = size_of v.answer v.list.count
+abbrev pub verdict_size : Verdict → ℕ
+verdict_size v = size_of v.answer v.list.count
 
 -- the next ledger: a verdict that does not fit leaves the ledger as it was
-abbrev pub keptAfter : Ledger → Ask → Ledger
-keptAfter l a = cond (leb (verdictSize (judged l a.request).verdict) a.room) (judged l a.request).ledger l
+abbrev pub kept_after : Ledger → Ask → Ledger
+kept_after l a = cond (leb (verdict_size (judged l a.request).verdict) a.room) (judged l a.request).ledger l
 
-unfoldable pub ledgerAfter : Ledger → List Ask → Ledger
-ledgerAfter l [] = l
-ledgerAfter l (a ∷ asks) = ledgerAfter (keptAfter l a) asks
+unfoldable pub ledger_after : Ledger → List Ask → Ledger
+ledger_after l [] = l
+ledger_after l (a ∷ asks) = ledger_after (kept_after l a) asks
 
 pub record Delivered (asks : List Ask) : Type 0 where
   -- the ledger is the layout of the rules' state, and sound: row 1 never applies to it
-  pub laid : ledgerAfter (lay fresh) asks ≡ lay (ledgerOf asks)
-  pub isSound : isSound (ledgerAfter (lay fresh) asks) ≡ true
+  pub laid : ledger_after (lay fresh) asks ≡ lay (ledger_of asks)
+  pub is_sound : is_sound (ledger_after (lay fresh) asks) ≡ true
   -- every verdict is the one that the rules give
-  pub answers : (q : Request) → (judged (ledgerAfter (lay fresh) asks) q).verdict ≡ verdictOf (reply limits (sound limits) (ledgerOf asks) q)
+  pub answers : (q : Request) → (judged (ledger_after (lay fresh) asks) q).verdict ≡ verdict_of (reply limits (sound limits) (ledger_of asks) q)
   -- demand 3 of that state and the history
   pub whole : Whole asks

@@ -3,41 +3,41 @@
 use Rattle.std.specs.Prelude.{Bool, List, [], ◌∷◌, ℕ, take}
 use Rattle.rules.specs.declared.Object.{Object}
 use Rattle.rules.specs.declared.Hold.{Hold}
-use Rattle.rules.specs.Lists.{conj, all, distinct, risingAbove}
+use Rattle.rules.specs.Lists.{conj, all, distinct, rising_above}
 use Rattle.rules.specs.State.{Manifest}
 use Rattle.rules.specs.Words.{live}
-use Rattle.rules.specs.Step.{heldBy}
+use Rattle.rules.specs.Step.{held_by}
 use Rattle.rules.specs.Sound.{ordered}
-use Rattle.objects.specs.Objects.{among, named_in, numbersIn, placeSoundBy}
+use Rattle.objects.specs.Objects.{among, named_in, numbers_in, place_sound_by}
 use Rattle.manifests.specs.declared.KeptManifest.{KeptManifest}
-use Rattle.manifests.specs.Manifests.{manifestsOf, olderOf, currentOf, hasNumber}
+use Rattle.manifests.specs.Manifests.{manifests_of, older_of, current_of, has_number}
 use Rattle.holds.specs.Holds.{holds_of, numbers}
 use Rattle.ledger.specs.declared.Ledger.{Ledger}
 
 -- stored objects have distinct numbers, and epochs up to their role's
-unfoldable pub objectsSound : Ledger → Bool
-objectsSound l =
-    conj (all (placeSoundBy (currentOf l.manifests).writer (currentOf l.manifests).compactor) l.objects.items ∷ distinct (numbersIn l.objects.items) ∷ [])
+unfoldable pub objects_sound : Ledger → Bool
+objects_sound l =
+    conj (all (place_sound_by (current_of l.manifests).writer (current_of l.manifests).compactor) l.objects.items ∷ distinct (numbers_in l.objects.items) ∷ [])
 
 -- a list rises strictly without 0, and its objects are stored and marked as named
-unfoldable pub listSound : List Object → KeptManifest → Bool
-listSound ps m = conj (risingAbove 0 (take m.count m.names) ∷ all (named_in ps) (take m.count m.names) ∷ [])
+unfoldable pub list_sound : List Object → KeptManifest → Bool
+list_sound ps m = conj (rising_above 0 (take m.count m.names) ∷ all (named_in ps) (take m.count m.names) ∷ [])
 
 -- the same, by the numbers of the objects that are marked as named
-abbrev pub listSoundBy : List ℕ → KeptManifest → Bool
-listSoundBy named m = conj (risingAbove 0 (take m.count m.names) ∷ all (among named) (take m.count m.names) ∷ [])
+abbrev pub list_sound_by : List ℕ → KeptManifest → Bool
+list_sound_by named m = conj (rising_above 0 (take m.count m.names) ∷ all (among named) (take m.count m.names) ∷ [])
 
 -- the kept manifests are in order, their lists are sound, and each but the current one is held
-unfoldable pub manifestsSound : Ledger → Bool
-manifestsSound l =
-    conj (ordered 0 0 0 (manifestsOf l.manifests) ∷ all (listSound l.objects.items) (take l.manifests.count l.manifests.items)
-    ∷ all (heldBy (holds_of l.holds)) (olderOf l.manifests) ∷ [])
+unfoldable pub manifests_sound : Ledger → Bool
+manifests_sound l =
+    conj (ordered 0 0 0 (manifests_of l.manifests) ∷ all (list_sound l.objects.items) (take l.manifests.count l.manifests.items)
+    ∷ all (held_by (holds_of l.holds)) (older_of l.manifests) ∷ [])
 
 -- a hold names a kept manifest
-abbrev pub holdKept : List Manifest → Hold → Bool
-holdKept ms x = hasNumber ms x.manifest
+abbrev pub hold_kept : List Manifest → Hold → Bool
+hold_kept ms x = has_number ms x.manifest
 
 -- holds are in rising number, each names a kept manifest and is live
-unfoldable pub holdsSound : Ledger → Bool
-holdsSound l =
-    conj (risingAbove 0 (numbers (holds_of l.holds)) ∷ all (holdKept (manifestsOf l.manifests)) (holds_of l.holds) ∷ all (live l.clock) (holds_of l.holds) ∷ [])
+unfoldable pub holds_sound : Ledger → Bool
+holds_sound l =
+    conj (rising_above 0 (numbers (holds_of l.holds)) ∷ all (hold_kept (manifests_of l.manifests)) (holds_of l.holds) ∷ all (live l.clock) (holds_of l.holds) ∷ [])

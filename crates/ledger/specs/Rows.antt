@@ -7,5 +7,5 @@ use Rattle.rules.specs.State.{State}
 use Rattle.rules.specs.Table.{rows, first_of}
 
 -- the first row from the third on that applies to a kind
-abbrev pub rowBehind : State → ℕ → Kind → List ℕ → ℕ
-rowBehind s t k l = first_of (drop 2 (rows limits s t k l))
+abbrev pub row_behind : State → ℕ → Kind → List ℕ → ℕ
+row_behind s t k l = first_of (drop 2 (rows limits s t k l))

@@ -3,9 +3,9 @@ ghost use Rattle.std.specs.Prelude.{◌≡◌, true, ◌≤◌, take};
 ghost use Rattle.rules.specs.Limits.{limits};
 ghost use Rattle.rules.specs.Lists.{all};
 ghost use Rattle.holds.specs.Holds.{holds_of};
-ghost use Rattle.manifests.specs.Manifests.{manifestsOf, isLaid as manifestsLaid};
-ghost use Rattle.ledger.specs.Ledger.{isLaidOut, isSound};
-ghost use Rattle.ledger.specs.Parts.{listSound, listSoundBy, holdKept, objectsSound, manifestsSound, holdsSound};
+ghost use Rattle.manifests.specs.Manifests.{manifests_of, is_laid as manifests_laid};
+ghost use Rattle.ledger.specs.Ledger.{is_laid_out, is_sound};
+ghost use Rattle.ledger.specs.Parts.{list_sound, list_sound_by, hold_kept, objects_sound, manifests_sound, holds_sound};
 
 use crate::Ledger;
 use holds::Holds;
@@ -15,7 +15,7 @@ use objects::Objects;
 // Whether a manifest's list rises strictly without 0, and its objects are among those that are stored and marked as named.
 fn list_sound(manifest: KeptManifest, named: &[u64]) -> bool
     requires { manifest.count ≤ limits.names }
-    ensures { result ≡ listSoundBy named.now manifest }
+    ensures { result ≡ list_sound_by named.now manifest }
 {
     let count = manifest.count;
     let names = manifest.names;
@@ -27,8 +27,8 @@ fn list_sound(manifest: KeptManifest, named: &[u64]) -> bool
 
 // Whether every kept list is sound.
 fn lists_sound(manifests: Manifests, objects: Objects) -> bool
-    requires { manifestsLaid manifests ≡ true }
-    ensures { result ≡ all (listSound objects.items) (take manifests.count manifests.items) }
+    requires { manifests_laid manifests ≡ true }
+    ensures { result ≡ all (list_sound objects.items) (take manifests.count manifests.items) }
 {
     let named = objects.named();
     let count = manifests.count;
@@ -45,8 +45,8 @@ fn lists_sound(manifests: Manifests, objects: Objects) -> bool
 
 // Whether every hold names a kept manifest.
 fn holds_kept(holds: Holds, manifests: Manifests) -> bool
-    requires { (manifestsLaid manifests ≡ true) × (holds.count ≤ limits.holds) }
-    ensures { result ≡ all (holdKept (manifestsOf manifests)) (holds_of holds) }
+    requires { (manifests_laid manifests ≡ true) × (holds.count ≤ limits.holds) }
+    ensures { result ≡ all (hold_kept (manifests_of manifests)) (holds_of holds) }
 {
     let count = holds.count;
     let mut i: usize = 0;
@@ -63,7 +63,7 @@ fn holds_kept(holds: Holds, manifests: Manifests) -> bool
 impl Ledger {
     // Whether the layout is kept, of any value.
     fn is_laid_out(self) -> bool
-        ensures { result ≡ isLaidOut self }
+        ensures { result ≡ is_laid_out self }
     {
         let objects = self.objects;
         if !objects.is_laid() {
@@ -79,7 +79,7 @@ impl Ledger {
 
     // Whether the ledger is sound, of any value.
     pub fn is_sound(self) -> bool
-        ensures { result ≡ isSound self }
+        ensures { result ≡ is_sound self }
     {
         if !self.is_laid_out() {
             return false;
@@ -94,8 +94,8 @@ impl Ledger {
     }
 
     fn objects_sound(self) -> bool
-        requires { isLaidOut self ≡ true }
-        ensures { result ≡ objectsSound self }
+        requires { is_laid_out self ≡ true }
+        ensures { result ≡ objects_sound self }
     {
         let manifests = self.manifests;
         let current = manifests.current();
@@ -107,8 +107,8 @@ impl Ledger {
     }
 
     fn manifests_sound(self) -> bool
-        requires { isLaidOut self ≡ true }
-        ensures { result ≡ manifestsSound self }
+        requires { is_laid_out self ≡ true }
+        ensures { result ≡ manifests_sound self }
     {
         let manifests = self.manifests;
         if !manifests.is_ordered() {
@@ -123,8 +123,8 @@ impl Ledger {
     }
 
     fn holds_sound(self) -> bool
-        requires { isLaidOut self ≡ true }
-        ensures { result ≡ holdsSound self }
+        requires { is_laid_out self ≡ true }
+        ensures { result ≡ holds_sound self }
     {
         let holds = self.holds;
         if !holds.is_rising() {

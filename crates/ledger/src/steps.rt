@@ -7,11 +7,11 @@ ghost use Rattle.rules.specs.Limits.{limits};
 ghost use Rattle.rules.specs.Step.{alone};
 ghost use Rattle.rules.specs.Table.{◌if◌, row15, first_of};
 ghost use Rattle.rules.specs.Words.{read_by};
-ghost use Rattle.manifests.specs.Manifests.{layManifest};
-ghost use Rattle.rules.specs.Typed.{isPadded, names_of, objectList, verdictOf};
-ghost use Rattle.ledger.specs.Ledger.{view, isSound};
-ghost use Rattle.ledger.specs.Rows.{rowBehind};
-ghost use Rattle.ledger.specs.Step.{Admitted, refusedWith, answeredWith, ruled, judged, step_of, doorOf};
+ghost use Rattle.manifests.specs.Manifests.{lay_manifest};
+ghost use Rattle.rules.specs.Typed.{is_padded, names_of, object_list, verdict_of};
+ghost use Rattle.ledger.specs.Ledger.{view, is_sound};
+ghost use Rattle.ledger.specs.Rows.{row_behind};
+ghost use Rattle.ledger.specs.Step.{Admitted, refused_with, answered_with, ruled, judged, step_of, door_of};
 
 use crate::{Ledger, StepAnswer};
 use manifests::KeptManifest;
@@ -19,7 +19,7 @@ use rules::{Answer, Hold, Kind, NameList, Object, ObjectList, Role, Step, Verdic
 
 // An answer with no list beside it.
 fn verdict_alone(answer: Answer) -> Verdict
-    ensures { result ≡ verdictOf (alone answer) }
+    ensures { result ≡ verdict_of (alone answer) }
 {
     let objects = [0u64; Ledger::PLACES];
     let list = ObjectList { count: 0, objects };
@@ -28,7 +28,7 @@ fn verdict_alone(answer: Answer) -> Verdict
 
 // Turned away: the ledger as it was.
 fn refused(row: u8, ledger: Ledger) -> StepAnswer
-    ensures { result ≡ refusedWith row ledger }
+    ensures { result ≡ refused_with row ledger }
 {
     let verdict = verdict_alone(Answer::Refused(row));
     StepAnswer { verdict, ledger }
@@ -36,7 +36,7 @@ fn refused(row: u8, ledger: Ledger) -> StepAnswer
 
 // Accepted, with no list.
 fn accepted(answer: Answer, ledger: Ledger) -> StepAnswer
-    ensures { result ≡ answeredWith (alone answer) ledger }
+    ensures { result ≡ answered_with (alone answer) ledger }
 {
     let verdict = verdict_alone(answer);
     StepAnswer { verdict, ledger }
@@ -45,7 +45,7 @@ fn accepted(answer: Answer, ledger: Ledger) -> StepAnswer
 impl Ledger {
     // Rows 1 to 3, which every kind has first.
     fn door(self, step: Step) -> u8
-        ensures { result ≡ doorOf self step }
+        ensures { result ≡ door_of self step }
     {
         if !self.is_sound() {
             return 1;
@@ -62,8 +62,8 @@ impl Ledger {
     // FENCE
 
     fn fence_row(self, slot: u64) -> u8
-        requires { isSound self ≡ true }
-        ensures { (t : ℕ) (who : Who) → result ≡ rowBehind (view self) t (FENCE who slot) [] }
+        requires { is_sound self ≡ true }
+        ensures { (t : ℕ) (who : Who) → result ≡ row_behind (view self) t (FENCE who slot) [] }
     {
         let manifests = self.manifests;
         let current = manifests.current();
@@ -99,8 +99,8 @@ impl Ledger {
     // PUT
 
     fn put_row(self, role: Role, epoch: u64, object: u64) -> u8
-        requires { isSound self ≡ true }
-        ensures { (t c : ℕ) → result ≡ rowBehind (view self) t (PUT role epoch object c) [] }
+        requires { is_sound self ≡ true }
+        ensures { (t c : ℕ) → result ≡ row_behind (view self) t (PUT role epoch object c) [] }
     {
         let manifests = self.manifests;
         let current = manifests.current();
@@ -148,8 +148,8 @@ impl Ledger {
     // COMMIT
 
     fn commit_row(self, epoch: u64, slot: u64, list: NameList) -> u8
-        requires { (isSound self ≡ true) × (list.count ≤ limits.names) }
-        ensures { (t : ℕ) → result ≡ rowBehind (view self) t (COMMIT epoch slot) (names_of list) }
+        requires { (is_sound self ≡ true) × (list.count ≤ limits.names) }
+        ensures { (t : ℕ) → result ≡ row_behind (view self) t (COMMIT epoch slot) (names_of list) }
     {
         let manifests = self.manifests;
         let current = manifests.current();
@@ -171,7 +171,7 @@ impl Ledger {
     }
 
     fn commit(mut self, time: u64, epoch: u64, slot: u64, list: NameList) -> StepAnswer
-        requires { (Admitted self time (COMMIT epoch slot) (names_of list)) × (isPadded list.count list.names ≡ true) }
+        requires { (Admitted self time (COMMIT epoch slot) (names_of list)) × (is_padded list.count list.names ≡ true) }
         ensures { result ≡ ruled (Asked time (COMMIT epoch slot) (names_of list)) self }
     {
         let row = self.commit_row(epoch, slot, list);
@@ -189,8 +189,8 @@ impl Ledger {
     // COMPACT
 
     fn compact_row(self, epoch: u64, slot: u64, object: u64) -> u8
-        requires { isSound self ≡ true }
-        ensures { (t : ℕ) → result ≡ rowBehind (view self) t (COMPACT epoch slot object) [] }
+        requires { is_sound self ≡ true }
+        ensures { (t : ℕ) → result ≡ row_behind (view self) t (COMPACT epoch slot object) [] }
     {
         let manifests = self.manifests;
         let current = manifests.current();
@@ -235,8 +235,8 @@ impl Ledger {
     // HOLD, RENEW, RELEASE
 
     fn hold_row(self, time: u64, hold: u64, manifest: u64) -> u8
-        requires { isSound self ≡ true }
-        ensures { (e : ℕ) → result ≡ rowBehind (view self) time (HOLD hold manifest e) [] }
+        requires { is_sound self ≡ true }
+        ensures { (e : ℕ) → result ≡ row_behind (view self) time (HOLD hold manifest e) [] }
     {
         let holds = self.holds;
         let live = holds.live(time);
@@ -277,7 +277,7 @@ impl Ledger {
 
     // Row 15: a hold that is not 0 is live.
     fn live_row(self, time: u64, hold: u64) -> u8
-        requires { isSound self ≡ true }
+        requires { is_sound self ≡ true }
         ensures { result ≡ first_of ((15 if row15 (view self) time hold) ∷ []) }
     {
         if hold == 0 {
@@ -323,8 +323,8 @@ impl Ledger {
 
     // The manifest that is read at that time: hold 0 means the current one.
     fn read_by(self, time: u64, hold: u64) -> KeptManifest
-        requires { isSound self ≡ true }
-        ensures { result ≡ layManifest (read_by time (view self) hold) }
+        requires { is_sound self ≡ true }
+        ensures { result ≡ lay_manifest (read_by time (view self) hold) }
     {
         let manifests = self.manifests;
         if hold == 0 {
@@ -380,7 +380,7 @@ impl Ledger {
 // Object numbers in their places.
 fn object_list(names: &[u64]) -> ObjectList
     requires { length names.now ≤ limits.places }
-    ensures { result ≡ objectList names.now }
+    ensures { result ≡ object_list names.now }
 {
     let mut objects = [0u64; Ledger::PLACES];
     let mut i: usize = 0;
@@ -396,7 +396,7 @@ fn object_list(names: &[u64]) -> ObjectList
 impl Ledger {
     // A step of which rows 1 to 3 do not apply.
     fn admitted(self, step: Step) -> StepAnswer
-        requires { (Admitted self step.time step.kind (names_of step.list)) × (isPadded step.list.count step.list.names ≡ true) }
+        requires { (Admitted self step.time step.kind (names_of step.list)) × (is_padded step.list.count step.list.names ≡ true) }
         ensures { result ≡ ruled (Asked step.time step.kind (names_of step.list)) self }
     {
         let time = step.time;

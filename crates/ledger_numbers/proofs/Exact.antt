@@ -15,16 +15,16 @@ use Rattle.fields.specs.Fields.{over}
 use Rattle.rules.specs.declared.Role.{Role}
 use Rattle.rules.specs.declared.Role.TheVariants.{Writer, Compactor}
 use Rattle.rules.specs.declared.Object.{Object}
-use Rattle.rules.specs.Limits.{limits, manifestLimit, wordCount}
+use Rattle.rules.specs.Limits.{limits, manifest_limit, word_count}
 use Rattle.rules.specs.Lists.{◌∈◌, conj, all}
 use Rattle.rules.proofs.Lists.{and_left, and_right, decide, conj-true, all_in}
 use Rattle.manifests.specs.declared.KeptManifest.{KeptManifest}
 use Rattle.manifests.proofs.Places as lists
 use Rattle.ledger.specs.declared.Ledger.{Ledger}
-use Rattle.ledger.specs.Ledger.{isSound}
+use Rattle.ledger.specs.Ledger.{is_sound}
 use Rattle.ledger.specs.SoundLaw.{Whole}
-use Rattle.ledger.proofs.View.{sound-parts}
-use Rattle.ledger_numbers.specs.Numbers.{role_number, flag, objectSize, names_at, manifestSize, holdSize, occupancyAt, objectsAt, kept_at, manifestsAt, held_at, holdsAt, ledgerSize, objectNumbers, manifestNumbers, holdNumbers, flat, ledgerNumbers, largestCurrency, roleFrom, objectFrom, manifestFrom, holdFrom, each, ledgerSaid, canBe, isLedger, noManifest, ledgerFrom, laidBack}
+use Rattle.ledger.proofs.View.{sound_parts}
+use Rattle.ledger_numbers.specs.Numbers.{role_number, flag, object_size, names_at, manifest_size, hold_size, occupancy_at, objects_at, kept_at, manifests_at, held_at, holds_at, ledger_size, object_numbers, manifest_numbers, hold_numbers, flat, ledger_numbers, largest_currency, role_from, object_from, manifest_from, hold_from, each, ledger_said, can_be, is_ledger, no_manifest, ledger_from, laid_back}
 use Rattle.ledger_numbers.specs.Exact.{NumbersExact}
 
 -- What is read and written again
@@ -45,8 +45,8 @@ module _ (v : List ℕ) (t a m : ℕ) {r : List ℕ} (h : a + m ≤ t) (behind :
       let many : m + (t - (a + m)) ≡ t - a = omega arith in
       ap₂ ◌++◌ e (behind ∙ ap (take (t - (a + m))) (sym (drop-drop m a v))) ∙ sym (take-add m (t - (a + m)) (drop a v)) ∙ ap (λ (n : ℕ). take n (drop a v)) many
 
-  row-then : t ≤ length v → row v a m ++ r ≡ take (t - a) (drop a v)
-  row-then room = part_then (row-part v a m (omega arith))
+  row_then : t ≤ length v → row v a m ++ r ≡ take (t - a) (drop a v)
+  row_then room = part_then (row-part v a m (omega arith))
 
 -- k places that pass the test
 module _ {A : Type 0} (f : List ℕ → A) (g : A → List ℕ) (p : List ℕ → Bool) (size : ℕ) (one : (w : List ℕ) → size ≤ length w → p w ≡ true → g (f w) ≡ take size w) where
@@ -66,55 +66,55 @@ each-true size zero v = refl
 each-true size (suc k) v = each-true size k (drop size v)
 
 -- a place of each kind
-bit : (n : ℕ) → leb n 1 ≡ true → (role_number (roleFrom n) ≡ n) × (flag (not (eqb n 0)) ≡ n)
+bit : (n : ℕ) → leb n 1 ≡ true → (role_number (role_from n) ≡ n) × (flag (not (eqb n 0)) ≡ n)
 bit zero e = (refl, refl)
 bit (suc zero) e = (refl, refl)
 bit (suc (suc n)) e = absurd (omega (arith, leb-true (suc (suc n)) 1 e))
 
-small-currency : (n : ℕ) → leb n largestCurrency ≡ true → n % 65536 ≡ n
-small-currency n e = mod-eq_of_lt (omega (arith, leb-true n largestCurrency e))
+small_currency : (n : ℕ) → leb n largest_currency ≡ true → n % 65536 ≡ n
+small_currency n e = mod-eq_of_lt (omega (arith, leb-true n largest_currency e))
 
-object-same : (w : List ℕ) → objectSize ≤ length w → canBe w ≡ true → objectNumbers (objectFrom w) ≡ take objectSize w
+object-same : (w : List ℕ) → object_size ≤ length w → can_be w ≡ true → object_numbers (object_from w) ≡ take object_size w
 object-same w h e =
-    let t = conj-true (leb (get_or w 1 0) 1 ∷ leb (get_or w 3 0) largestCurrency ∷ leb (get_or w 4 0) 1 ∷ []) e in
-    (λ i. get_or w 0 0 ∷ (bit (get_or w 1 0) t.0).0 i ∷ get_or w 2 0 ∷ small-currency (get_or w 3 0) t.1.0 i ∷ (bit (get_or w 4 0) t.1.1.0).1 i ∷ [])
-    ∙ row-part w 0 objectSize h
+    let t = conj-true (leb (get_or w 1 0) 1 ∷ leb (get_or w 3 0) largest_currency ∷ leb (get_or w 4 0) 1 ∷ []) e in
+    (λ i. get_or w 0 0 ∷ (bit (get_or w 1 0) t.0).0 i ∷ get_or w 2 0 ∷ small_currency (get_or w 3 0) t.1.0 i ∷ (bit (get_or w 4 0) t.1.1.0).1 i ∷ [])
+    ∙ row-part w 0 object_size h
 
-manifest-same : (w : List ℕ) → manifestSize ≤ length w → true ≡ true → manifestNumbers (manifestFrom w) ≡ take manifestSize w
-manifest-same w h e = row-then w manifestSize 0 names_at (omega arith) refl h
+manifest-same : (w : List ℕ) → manifest_size ≤ length w → true ≡ true → manifest_numbers (manifest_from w) ≡ take manifest_size w
+manifest-same w h e = row_then w manifest_size 0 names_at (omega arith) refl h
 
-hold-same : (w : List ℕ) → holdSize ≤ length w → true ≡ true → holdNumbers (holdFrom w) ≡ take holdSize w
-hold-same w h e = row-part w 0 holdSize h
+hold-same : (w : List ℕ) → hold_size ≤ length w → true ≡ true → hold_numbers (hold_from w) ≡ take hold_size w
+hold-same w h e = row-part w 0 hold_size h
 
-ledger-same : (v : List ℕ) → ledgerSize ≤ length v → isLedger v ≡ true → ledgerNumbers (ledgerSaid v) ≡ take ledgerSize v
-unfolding ledgerNumbers ledgerSaid isLedger
+ledger-same : (v : List ℕ) → ledger_size ≤ length v → is_ledger v ≡ true → ledger_numbers (ledger_said v) ≡ take ledger_size v
+unfolding ledger_numbers ledger_said is_ledger
 ledger-same v h e =
-    let objects = flat-each objectFrom objectNumbers canBe objectSize object-same limits.places (drop objectsAt v) (omega (arith, length-drop objectsAt v)) e in
-    let manifests = flat-each manifestFrom manifestNumbers (λ w. true) manifestSize manifest-same (manifestLimit limits) (drop manifestsAt v) (omega (arith, length-drop manifestsAt v)) (each-true _ _ _) in
-    let holds = flat-each holdFrom holdNumbers (λ w. true) holdSize hold-same limits.holds (drop holdsAt v) (omega (arith, length-drop holdsAt v)) (each-true _ _ _) in
-    let held = row-then v ledgerSize held_at 1 (omega arith) holds h in
-    let kept = row-then v ledgerSize kept_at 1 (omega arith) (part_then v ledgerSize manifestsAt (manifestLimit limits * manifestSize) (omega arith) held manifests) h in
-    let places = part_then v ledgerSize objectsAt (limits.places * objectSize) (omega arith) kept objects in
-    row-then v ledgerSize 0 2 (omega arith) (part_then v ledgerSize occupancyAt wordCount (omega arith) places refl) h
+    let objects = flat-each object_from object_numbers can_be object_size object-same limits.places (drop objects_at v) (omega (arith, length-drop objects_at v)) e in
+    let manifests = flat-each manifest_from manifest_numbers (λ w. true) manifest_size manifest-same (manifest_limit limits) (drop manifests_at v) (omega (arith, length-drop manifests_at v)) (each-true _ _ _) in
+    let holds = flat-each hold_from hold_numbers (λ w. true) hold_size hold-same limits.holds (drop holds_at v) (omega (arith, length-drop holds_at v)) (each-true _ _ _) in
+    let held = row_then v ledger_size held_at 1 (omega arith) holds h in
+    let kept = row_then v ledger_size kept_at 1 (omega arith) (part_then v ledger_size manifests_at (manifest_limit limits * manifest_size) (omega arith) held manifests) h in
+    let places = part_then v ledger_size objects_at (limits.places * object_size) (omega arith) kept objects in
+    row_then v ledger_size 0 2 (omega arith) (part_then v ledger_size occupancy_at word_count (omega arith) places refl) h
 
-stays : (v : List ℕ) → ledgerSize ≤ length v → laidBack (ledgerFrom v) v ≡ v
-unfolding laidBack ledgerFrom
-stays v h = step (isLedger v) refl
+stays : (v : List ℕ) → ledger_size ≤ length v → laid_back (ledger_from v) v ≡ v
+unfolding laid_back ledger_from
+stays v h = step (is_ledger v) refl
   where
-    step : (b : Bool) → isLedger v ≡ b → cond b (over (ledgerNumbers (cond b (ledgerSaid v) noManifest)) v) v ≡ v
+    step : (b : Bool) → is_ledger v ≡ b → cond b (over (ledger_numbers (cond b (ledger_said v) no_manifest)) v) v ≡ v
     step true e =
         ap (λ (n : List ℕ). over n v) (ledger-same v h e)
-        ∙ ap (λ (k : ℕ). take ledgerSize v ++ drop k v) (length-take-le ledgerSize v h) ∙ take-append-drop ledgerSize v
+        ∙ ap (λ (k : ℕ). take ledger_size v ++ drop k v) (length-take-le ledger_size v h) ∙ take-append-drop ledger_size v
     step false e = refl
 
 -- No ledger is sound that has no manifest
 
-none-unsound : (l : Ledger) → l.manifests.count ≡ 0 → isSound l ≡ false
-none-unsound l e = ⊎_elim (λ t. absurd (omega (arith, lists.some l.manifests (sound-parts l t).manifests))) (λ f. f) (decide (isSound l))
+none-unsound : (l : Ledger) → l.manifests.count ≡ 0 → is_sound l ≡ false
+none-unsound l e = ⊎_elim (λ t. absurd (omega (arith, lists.some l.manifests (sound_parts l t).manifests))) (λ f. f) (decide (is_sound l))
 
-unsound : (v : List ℕ) → isLedger v ≡ false → isSound (ledgerFrom v) ≡ false
-unfolding ledgerFrom
-unsound v e = ap (λ (b : Bool). isSound (cond b (ledgerSaid v) noManifest)) e ∙ none-unsound noManifest refl
+unsound : (v : List ℕ) → is_ledger v ≡ false → is_sound (ledger_from v) ≡ false
+unfolding ledger_from
+unsound v e = ap (λ (b : Bool). is_sound (cond b (ledger_said v) no_manifest)) e ∙ none-unsound no_manifest refl
 
 -- What is written and read again
 
@@ -153,14 +153,14 @@ module _ {A : Type 0} (g : A → List ℕ) (size : ℕ) where
       ∙ each-flat f h xs rest (λ y m. long y (Memᴰ.tail m)) (λ y m. says y (Memᴰ.tail m)))
 
 module _ {A : Type 0} {g : A → List ℕ} {size k a : ℕ} {v : List ℕ} {items : List A} {rest : List ℕ} (lie : Lie g size k a v items rest) where
-  lie-behind : drop (a + k * size) v ≡ rest
-  lie-behind = behind v (flat g items) rest a (k * size) lie.there (length-flat g size items lie.long ∙ ap (◌* size) lie.many)
+  lie_behind : drop (a + k * size) v ≡ rest
+  lie_behind = behind v (flat g items) rest a (k * size) lie.there (length-flat g size items lie.long ∙ ap (◌* size) lie.many)
 
-  lie-read : {B : Type 0} (f : List ℕ → B) (h : A → B) → ((x : A) → x ∈ items → (r : List ℕ) → f (g x ++ r) ≡ h x) → each f size k (drop a v) ≡ map h items
-  lie-read f h says = ap₂ (each f size) (sym lie.many) lie.there ∙ each-flat g size f h items rest lie.long says
+  lie_read : {B : Type 0} (f : List ℕ → B) (h : A → B) → ((x : A) → x ∈ items → (r : List ℕ) → f (g x ++ r) ≡ h x) → each f size k (drop a v) ≡ map h items
+  lie_read f h says = ap₂ (each f size) (sym lie.many) lie.there ∙ each-flat g size f h items rest lie.long says
 
-  lie-back : (f : List ℕ → A) → ((x : A) → x ∈ items → (r : List ℕ) → f (g x ++ r) ≡ x) → each f size k (drop a v) ≡ items
-  lie-back f says = lie-read f (λ x. x) says ∙ map-id items
+  lie_back : (f : List ℕ → A) → ((x : A) → x ∈ items → (r : List ℕ) → f (g x ++ r) ≡ x) → each f size k (drop a v) ≡ items
+  lie_back f says = lie_read f (λ x. x) says ∙ map-id items
 
 conj-map : {A : Type 0} (p : A → Bool) (l : List A) → conj (map p l) ≡ all p l
 unfolding conj all
@@ -168,7 +168,7 @@ conj-map p [] = refl
 conj-map p (x ∷ xs) = ap (p x &&◌) (conj-map p xs)
 
 -- a place of each kind
-role-back : (r : Role) → (roleFrom (role_number r) ≡ r) × (leb (role_number r) 1 ≡ true)
+role-back : (r : Role) → (role_from (role_number r) ≡ r) × (leb (role_number r) 1 ≡ true)
 role-back Writer = (refl, refl)
 role-back Compactor = (refl, refl)
 
@@ -177,90 +177,90 @@ flag-back true = (refl, refl)
 flag-back false = (refl, refl)
 
 -- its currency has 16 bits
-abbrev hasCurrency : Object → Bool
-hasCurrency o = leb o.currency largestCurrency
+abbrev has_currency : Object → Bool
+has_currency o = leb o.currency largest_currency
 
-object-back : (o : Object) → hasCurrency o ≡ true → (r : List ℕ) → objectFrom (objectNumbers o ++ r) ≡ o
+object-back : (o : Object) → has_currency o ≡ true → (r : List ℕ) → object_from (object_numbers o ++ r) ≡ o
 object-back o e r = λ i. record {
   number = o.number;
   role = (role-back o.role).0 i;
   epoch = o.epoch;
-  currency = small-currency o.currency e i;
+  currency = small_currency o.currency e i;
   named = (flag-back o.named).0 i;
 }
 
-object-can : (o : Object) (r : List ℕ) → canBe (objectNumbers o ++ r) ≡ hasCurrency o
+object_can : (o : Object) (r : List ℕ) → can_be (object_numbers o ++ r) ≡ has_currency o
 unfolding conj
-object-can o r = (λ i. conj ((role-back o.role).1 i ∷ hasCurrency o ∷ (flag-back o.named).1 i ∷ [])) ∙ and-true (hasCurrency o)
+object_can o r = (λ i. conj ((role-back o.role).1 i ∷ has_currency o ∷ (flag-back o.named).1 i ∷ [])) ∙ and-true (has_currency o)
 
-manifest-back : (m : KeptManifest) → length m.names ≡ limits.names → (r : List ℕ) → manifestFrom (manifestNumbers m ++ r) ≡ m
+manifest-back : (m : KeptManifest) → length m.names ≡ limits.names → (r : List ℕ) → manifest_from (manifest_numbers m ++ r) ≡ m
 manifest-back m e r = λ i. record { number = m.number; writer = m.writer; compactor = m.compactor; count = m.count; names = take_at m.names r limits.names e i }
 
 -- what lies from each part of a ledger on
 module _ (l : Ledger) where
-  abbrev fromHeld : List ℕ
-  fromHeld = l.holds.count ∷ flat holdNumbers l.holds.items
+  abbrev from_held : List ℕ
+  from_held = l.holds.count ∷ flat hold_numbers l.holds.items
 
-  abbrev fromKept : List ℕ
-  fromKept = l.manifests.count ∷ (flat manifestNumbers l.manifests.items ++ fromHeld)
+  abbrev from_kept : List ℕ
+  from_kept = l.manifests.count ∷ (flat manifest_numbers l.manifests.items ++ from_held)
 
-  abbrev fromWords : List ℕ
-  fromWords = l.objects.occupancy ++ (flat objectNumbers l.objects.items ++ fromKept)
+  abbrev from_words : List ℕ
+  from_words = l.objects.occupancy ++ (flat object_numbers l.objects.items ++ from_kept)
 
-  at_words : drop occupancyAt (ledgerNumbers l) ≡ fromWords
-  unfolding ledgerNumbers
+  at_words : drop occupancy_at (ledger_numbers l) ≡ from_words
+  unfolding ledger_numbers
   at_words = refl
 
-module _ (l : Ledger) (w : Whole l) (words : length l.objects.occupancy ≡ wordCount) where
-  objects-lie : Lie objectNumbers objectSize limits.places objectsAt (ledgerNumbers l) l.objects.items (fromKept l)
-  objects-lie = record {
+module _ (l : Ledger) (w : Whole l) (words : length l.objects.occupancy ≡ word_count) where
+  objects_lie : Lie object_numbers object_size limits.places objects_at (ledger_numbers l) l.objects.items (from_kept l)
+  objects_lie = record {
     long = λ o m. refl;
     many = w.objects;
-    there = behind (ledgerNumbers l) l.objects.occupancy _ occupancyAt wordCount (at_words l) words;
+    there = behind (ledger_numbers l) l.objects.occupancy _ occupancy_at word_count (at_words l) words;
   }
 
-  manifests-lie : Lie manifestNumbers manifestSize (manifestLimit limits) manifestsAt (ledgerNumbers l) l.manifests.items (fromHeld l)
-  manifests-lie = record {
+  manifests_lie : Lie manifest_numbers manifest_size (manifest_limit limits) manifests_at (ledger_numbers l) l.manifests.items (from_held l)
+  manifests_lie = record {
     long = λ x m. omega (arith, w.names x m);
     many = w.manifests;
-    there = behind (ledgerNumbers l) (l.manifests.count ∷ []) _ kept_at 1 (lie-behind objects-lie) refl;
+    there = behind (ledger_numbers l) (l.manifests.count ∷ []) _ kept_at 1 (lie_behind objects_lie) refl;
   }
 
-  holds-lie : Lie holdNumbers holdSize limits.holds holdsAt (ledgerNumbers l) l.holds.items []
-  holds-lie = record {
+  holds_lie : Lie hold_numbers hold_size limits.holds holds_at (ledger_numbers l) l.holds.items []
+  holds_lie = record {
     long = λ x m. refl;
     many = w.holds;
-    there = behind (ledgerNumbers l) (l.holds.count ∷ []) _ held_at 1 (lie-behind manifests-lie) refl ∙ sym (append-nil (flat holdNumbers l.holds.items));
+    there = behind (ledger_numbers l) (l.holds.count ∷ []) _ held_at 1 (lie_behind manifests_lie) refl ∙ sym (append-nil (flat hold_numbers l.holds.items));
   }
 
-  is-ledger : isLedger (ledgerNumbers l) ≡ all hasCurrency l.objects.items
-  unfolding isLedger
-  is-ledger = ap conj (lie-read objects-lie canBe hasCurrency (λ o m. object-can o)) ∙ conj-map hasCurrency l.objects.items
+  is_ledger_lem : is_ledger (ledger_numbers l) ≡ all has_currency l.objects.items
+  unfolding is_ledger
+  is_ledger_lem = ap conj (lie_read objects_lie can_be has_currency (λ o m. object_can o)) ∙ conj-map has_currency l.objects.items
 
-  said-back : all hasCurrency l.objects.items ≡ true → ledgerSaid (ledgerNumbers l) ≡ l
-  unfolding ledgerSaid ledgerNumbers
+  said-back : all has_currency l.objects.items ≡ true → ledger_said (ledger_numbers l) ≡ l
+  unfolding ledger_said ledger_numbers
   said-back small = λ i. record {
     clock = l.clock;
     collected = l.collected;
     objects = record {
-      occupancy = (ap (take wordCount) (at_words l) ∙ take_at l.objects.occupancy _ wordCount words) i;
-      items = lie-back objects-lie objectFrom (λ o m. object-back o (all_in hasCurrency small m)) i;
+      occupancy = (ap (take word_count) (at_words l) ∙ take_at l.objects.occupancy _ word_count words) i;
+      items = lie_back objects_lie object_from (λ o m. object-back o (all_in has_currency small m)) i;
     };
     manifests = record {
-      count = first (ledgerNumbers l) kept_at l.manifests.count _ (lie-behind objects-lie) i;
-      items = lie-back manifests-lie manifestFrom (λ x m. manifest-back x (w.names x m)) i;
+      count = first (ledger_numbers l) kept_at l.manifests.count _ (lie_behind objects_lie) i;
+      items = lie_back manifests_lie manifest_from (λ x m. manifest-back x (w.names x m)) i;
     };
     holds = record {
-      count = first (ledgerNumbers l) held_at l.holds.count _ (lie-behind manifests-lie) i;
-      items = lie-back holds-lie holdFrom (λ x m r. refl) i;
+      count = first (ledger_numbers l) held_at l.holds.count _ (lie_behind manifests_lie) i;
+      items = lie_back holds_lie hold_from (λ x m r. refl) i;
     };
   }
 
-back : (l : Ledger) → Whole l → length l.objects.occupancy ≡ wordCount → all hasCurrency l.objects.items ≡ true → (isLedger (ledgerNumbers l) ≡ true) × (ledgerFrom (ledgerNumbers l) ≡ l)
-unfolding ledgerFrom
+back : (l : Ledger) → Whole l → length l.objects.occupancy ≡ word_count → all has_currency l.objects.items ≡ true → (is_ledger (ledger_numbers l) ≡ true) × (ledger_from (ledger_numbers l) ≡ l)
+unfolding ledger_from
 back l w words small =
-    let can = is-ledger l w words ∙ small in
-    (can, ap (λ (b : Bool). cond b (ledgerSaid (ledgerNumbers l)) noManifest) can ∙ said-back l w words small)
+    let can = is_ledger_lem l w words ∙ small in
+    (can, ap (λ (b : Bool). cond b (ledger_said (ledger_numbers l)) no_manifest) can ∙ said-back l w words small)
 
 pub numbers-exact : NumbersExact
 numbers-exact = record { stays = stays; unsound = unsound; back = back }

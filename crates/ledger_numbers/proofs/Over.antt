@@ -22,7 +22,7 @@ pub over-all : (from to : List ℕ) → length to ≤ length from → over from 
 over-all from to h = rw (drop_of_length-le to h, append-nil)
 
 -- two numbers, one after the other
-pub over-two : (a b : ℕ) (to : List ℕ) → 2 ≤ length to → over (a ∷ b ∷ []) to ≡ set (set to 0 a) 1 b
-over-two a b [] h = absurd (omega arith)
-over-two a b (x ∷ []) h = absurd (omega arith)
-over-two a b (x ∷ y ∷ to) h = refl
+pub over_two : (a b : ℕ) (to : List ℕ) → 2 ≤ length to → over (a ∷ b ∷ []) to ≡ set (set to 0 a) 1 b
+over_two a b [] h = absurd (omega arith)
+over_two a b (x ∷ []) h = absurd (omega arith)
+over_two a b (x ∷ y ∷ to) h = refl

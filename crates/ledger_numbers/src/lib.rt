@@ -1,9 +1,9 @@
 // A ledger as numbers, for callers that see no struct: as many as LEDGER, in the order that include/cuudhaqil.h has.
 ghost use Rattle.std.specs.Prelude.{◌≡◌, ◌*◌, ◌≤◌, length};
-ghost use Rattle.rules.specs.Limits.{limits, manifestLimit};
+ghost use Rattle.rules.specs.Limits.{limits, manifest_limit};
 ghost use Rattle.rules.specs.Lists.{conj};
 ghost use Rattle.fields.specs.Fields.{over};
-ghost use Rattle.ledger_numbers.specs.Numbers.{role_number, flag, flat, each, objectSize, manifestSize, holdSize, roleFrom, objectFrom, manifestFrom, holdFrom, canBe, isLedger, ledgerSaid, noManifest, ledgerFrom, laidBack, objectNumbers, manifestNumbers, holdNumbers, ledgerNumbers, ledgerSize};
+ghost use Rattle.ledger_numbers.specs.Numbers.{role_number, flag, flat, each, object_size, manifest_size, hold_size, role_from, object_from, manifest_from, hold_from, can_be, is_ledger, ledger_said, no_manifest, ledger_from, laid_back, object_numbers, manifest_numbers, hold_numbers, ledger_numbers, ledger_size};
 
 use holds::Holds;
 use ledger::Ledger;
@@ -64,7 +64,7 @@ pub fn role_number(role: Role) -> u64
 // In
 
 fn role_from(n: u64) -> Role
-    ensures { result ≡ roleFrom n }
+    ensures { result ≡ role_from n }
 {
     if n == 0 {
         return Role::Writer;
@@ -73,8 +73,8 @@ fn role_from(n: u64) -> Role
 }
 
 fn object_from(v: &[u64]) -> Object
-    requires { objectSize ≤ length v.now }
-    ensures { result ≡ objectFrom v.now }
+    requires { object_size ≤ length v.now }
+    ensures { result ≡ object_from v.now }
 {
     let number = v[0];
     let role = role_from(v[1]);
@@ -91,8 +91,8 @@ fn object_from(v: &[u64]) -> Object
 }
 
 fn object_items(v: &[u64]) -> [Object; Ledger::PLACES]
-    requires { limits.places * objectSize ≤ length v.now }
-    ensures { result ≡ each objectFrom objectSize limits.places v.now }
+    requires { limits.places * object_size ≤ length v.now }
+    ensures { result ≡ each object_from object_size limits.places v.now }
 {
     let zero = Object {
         number: 0,
@@ -111,8 +111,8 @@ fn object_items(v: &[u64]) -> [Object; Ledger::PLACES]
 }
 
 fn manifest_from(v: &[u64]) -> KeptManifest
-    requires { manifestSize ≤ length v.now }
-    ensures { result ≡ manifestFrom v.now }
+    requires { manifest_size ≤ length v.now }
+    ensures { result ≡ manifest_from v.now }
 {
     let mut names = [0u64; Ledger::NAMES];
     fill(&v[NAMES_AT..MANIFEST], &mut names);
@@ -130,8 +130,8 @@ fn manifest_from(v: &[u64]) -> KeptManifest
 }
 
 fn manifest_items(v: &[u64]) -> [KeptManifest; Ledger::MANIFESTS]
-    requires { manifestLimit limits * manifestSize ≤ length v.now }
-    ensures { result ≡ each manifestFrom manifestSize (manifestLimit limits) v.now }
+    requires { manifest_limit limits * manifest_size ≤ length v.now }
+    ensures { result ≡ each manifest_from manifest_size (manifest_limit limits) v.now }
 {
     let names = [0u64; Ledger::NAMES];
     let zero = KeptManifest {
@@ -151,8 +151,8 @@ fn manifest_items(v: &[u64]) -> [KeptManifest; Ledger::MANIFESTS]
 }
 
 fn hold_from(v: &[u64]) -> Hold
-    requires { holdSize ≤ length v.now }
-    ensures { result ≡ holdFrom v.now }
+    requires { hold_size ≤ length v.now }
+    ensures { result ≡ hold_from v.now }
 {
     let number = v[0];
     let manifest = v[1];
@@ -165,8 +165,8 @@ fn hold_from(v: &[u64]) -> Hold
 }
 
 fn hold_items(v: &[u64]) -> [Hold; Ledger::HOLDS]
-    requires { limits.holds * holdSize ≤ length v.now }
-    ensures { result ≡ each holdFrom holdSize limits.holds v.now }
+    requires { limits.holds * hold_size ≤ length v.now }
+    ensures { result ≡ each hold_from hold_size limits.holds v.now }
 {
     let zero = Hold {
         number: 0,
@@ -184,8 +184,8 @@ fn hold_items(v: &[u64]) -> [Hold; Ledger::HOLDS]
 
 // What numbers say that a ledger can be.
 fn ledger_said(v: &[u64]) -> Ledger
-    requires { ledgerSize ≤ length v.now }
-    ensures { result ≡ ledgerSaid v.now }
+    requires { ledger_size ≤ length v.now }
+    ensures { result ≡ ledger_said v.now }
 {
     let mut occupancy = [0u64; WORDS];
     fill(&v[OCCUPANCY_AT..OBJECTS_AT], &mut occupancy);
@@ -219,8 +219,8 @@ fn ledger_said(v: &[u64]) -> Ledger
 
 // Whether a place can be an object's: its role and its mark are 0 or 1, and its currency has 16 bits.
 fn can_be(v: &[u64]) -> bool
-    requires { objectSize ≤ length v.now }
-    ensures { result ≡ canBe v.now }
+    requires { object_size ≤ length v.now }
+    ensures { result ≡ can_be v.now }
 {
     if 1 < v[1] {
         return false;
@@ -235,8 +235,8 @@ fn can_be(v: &[u64]) -> bool
 }
 
 fn places_can_be(v: &[u64]) -> bool
-    requires { limits.places * objectSize ≤ length v.now }
-    ensures { result ≡ conj (each canBe objectSize limits.places v.now) }
+    requires { limits.places * object_size ≤ length v.now }
+    ensures { result ≡ conj (each can_be object_size limits.places v.now) }
 {
     let mut i: usize = 0;
     while i < Ledger::PLACES {
@@ -250,15 +250,15 @@ fn places_can_be(v: &[u64]) -> bool
 
 // Whether the numbers can be a ledger's.
 fn is_ledger(v: &[u64]) -> bool
-    requires { ledgerSize ≤ length v.now }
-    ensures { result ≡ isLedger v.now }
+    requires { ledger_size ≤ length v.now }
+    ensures { result ≡ is_ledger v.now }
 {
     places_can_be(&v[OBJECTS_AT..])
 }
 
 // The fresh ledger without its manifest, which is not sound.
 fn no_manifest() -> Ledger
-    ensures { result ≡ noManifest }
+    ensures { result ≡ no_manifest }
 {
     let mut ledger = Ledger::fresh();
     let mut manifests = ledger.manifests;
@@ -270,8 +270,8 @@ fn no_manifest() -> Ledger
 // The ledger that the numbers say. Numbers that no ledger can be are never cut to what it can: they are a ledger that is not
 // sound.
 pub fn ledger_from(v: &[u64]) -> Ledger
-    requires { ledgerSize ≤ length v.now }
-    ensures { result ≡ ledgerFrom v.now }
+    requires { ledger_size ≤ length v.now }
+    ensures { result ≡ ledger_from v.now }
 {
     if !is_ledger(v) {
         return no_manifest();
@@ -291,7 +291,7 @@ fn flag_number(b: bool) -> u64
 }
 
 fn object_numbers(o: Object) -> [u64; OBJECT]
-    ensures { result ≡ objectNumbers o }
+    ensures { result ≡ object_numbers o }
 {
     let role = o.role;
     let r = role_number(role);
@@ -301,8 +301,8 @@ fn object_numbers(o: Object) -> [u64; OBJECT]
 }
 
 fn put_objects(items: [Object; Ledger::PLACES], out: &mut [u64])
-    requires { length out.old ≡ limits.places * objectSize }
-    ensures { out.new ≡ flat objectNumbers items }
+    requires { length out.old ≡ limits.places * object_size }
+    ensures { out.new ≡ flat object_numbers items }
 {
     let mut i: usize = 0;
     while i < Ledger::PLACES {
@@ -314,7 +314,7 @@ fn put_objects(items: [Object; Ledger::PLACES], out: &mut [u64])
 }
 
 fn manifest_numbers(m: KeptManifest) -> [u64; MANIFEST]
-    ensures { result ≡ manifestNumbers m }
+    ensures { result ≡ manifest_numbers m }
 {
     let names = m.names;
     let mut v = [0u64; MANIFEST];
@@ -327,8 +327,8 @@ fn manifest_numbers(m: KeptManifest) -> [u64; MANIFEST]
 }
 
 fn put_manifests(items: [KeptManifest; Ledger::MANIFESTS], out: &mut [u64])
-    requires { length out.old ≡ manifestLimit limits * manifestSize }
-    ensures { out.new ≡ flat manifestNumbers items }
+    requires { length out.old ≡ manifest_limit limits * manifest_size }
+    ensures { out.new ≡ flat manifest_numbers items }
 {
     let mut i: usize = 0;
     while i < Ledger::MANIFESTS {
@@ -340,14 +340,14 @@ fn put_manifests(items: [KeptManifest; Ledger::MANIFESTS], out: &mut [u64])
 }
 
 fn hold_numbers(h: Hold) -> [u64; HOLD]
-    ensures { result ≡ holdNumbers h }
+    ensures { result ≡ hold_numbers h }
 {
     [h.number, h.manifest, h.expiry]
 }
 
 fn put_holds(items: [Hold; Ledger::HOLDS], out: &mut [u64])
-    requires { length out.old ≡ limits.holds * holdSize }
-    ensures { out.new ≡ flat holdNumbers items }
+    requires { length out.old ≡ limits.holds * hold_size }
+    ensures { out.new ≡ flat hold_numbers items }
 {
     let mut i: usize = 0;
     while i < Ledger::HOLDS {
@@ -360,8 +360,8 @@ fn put_holds(items: [Hold; Ledger::HOLDS], out: &mut [u64])
 
 // The ledger's numbers, in as many places as they are.
 pub fn put_ledger(ledger: Ledger, out: &mut [u64])
-    requires { length out.old ≡ ledgerSize }
-    ensures { out.new ≡ ledgerNumbers ledger }
+    requires { length out.old ≡ ledger_size }
+    ensures { out.new ≡ ledger_numbers ledger }
 {
     out[0] = ledger.clock;
     out[1] = ledger.collected;
@@ -382,8 +382,8 @@ pub fn put_ledger(ledger: Ledger, out: &mut [u64])
 
 // Lays the next ledger's numbers over those that it came from; numbers that no ledger can be stay as they are.
 pub fn lay_back(ledger: Ledger, numbers: &mut [u64])
-    requires { ledgerSize ≤ length numbers.old }
-    ensures { numbers.new ≡ laidBack ledger numbers.old }
+    requires { ledger_size ≤ length numbers.old }
+    ensures { numbers.new ≡ laid_back ledger numbers.old }
 {
     if is_ledger(numbers) {
         put_ledger(ledger, &mut numbers[0..LEDGER]);

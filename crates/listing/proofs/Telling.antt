@@ -14,146 +14,146 @@ use Rattle.store_names.specs.declared.Name.TheVariants.{Manifest, Object}
 use Rattle.store_names.specs.declared.NameRead.{NameRead}
 use Rattle.store_names.specs.declared.NameRead.TheVariants.{Name as IsName, Malformed as NotName}
 use Rattle.store_names.specs.Names.{encode, decode}
-use Rattle.store_names.proofs.RoundTrip.{round_trip}
+use Rattle.store_names.proofs.RoundTrip.{round_trip_lem}
 use Rattle.listing.specs.declared.Optional.{Optional}
 use Rattle.listing.specs.declared.Optional.TheVariants.{None, Some}
 use Rattle.listing.specs.declared.Listing.{Listing}
 use Rattle.listing.specs.Lines.{Line, lines_of, below}
-use Rattle.listing.specs.Listing.{isAbove, isBad, goodBehind, good, namesIn, objectsIn, listingOf}
-use Rattle.listing.specs.Turns.{lineLength, nameBehind, withName, withBad}
-use Rattle.listing.specs.Whole.{lastManifest, or_else, manifestIn}
+use Rattle.listing.specs.Listing.{is_above, is_bad, good_behind, good, names_in, objects_in, listing_of}
+use Rattle.listing.specs.Turns.{line_length, name_behind, with_name, with_bad}
+use Rattle.listing.specs.Whole.{last_manifest, or_else, manifest_in}
 use Rattle.listing.proofs.Cutting.{lines_next, lines-torn}
-use Rattle.listing.proofs.Rising.{or-none, highest-good}
+use Rattle.listing.proofs.Rising.{or_none, highest-good}
 
 -- what lines say where there are none
 abbrev pub nothing : Listing
 nothing = record { manifest = None; objects = 0; bad = None }
 
 -- a line that is bad ends it
-abbrev pub goOn : NameRead → Listing → ℕ → (Name → Listing) → Listing
-goOn NotName said i next = withBad said i
-goOn (IsName v) said i next = next v
+abbrev pub go_on : NameRead → Listing → ℕ → (Name → Listing) → Listing
+go_on NotName said i next = with_bad said i
+go_on (IsName v) said i next = next v
 
 -- what lines say behind others that said so: i is the first one's number, and `before` the bytes of the line before it
 unfoldable pub tell : Listing → ℕ → List ℕ → List Line → Listing
 tell said i before [] = said
-tell said i before (l ∷ ls) = goOn (cond l.ended (nameBehind before l.bytes) NotName) said i (λ v. tell (withName said v) (i + 1) l.bytes ls)
+tell said i before (l ∷ ls) = go_on (cond l.ended (name_behind before l.bytes) NotName) said i (λ v. tell (with_name said v) (i + 1) l.bytes ls)
 
 -- ---- one turn
 
 module _ (said : Listing) (i : ℕ) (before rest : List ℕ) where
-  pub tell-torn : 0 < length rest → lineLength rest ≡ length rest → tell said i before (lines_of rest) ≡ withBad said i
+  pub tell-torn : 0 < length rest → line_length rest ≡ length rest → tell said i before (lines_of rest) ≡ with_bad said i
   unfolding tell
   tell-torn some torn = rw (lines-torn rest some torn)
 
-  pub tell-bad : lineLength rest < length rest → nameBehind before (take (lineLength rest) rest) ≡ NotName → tell said i before (lines_of rest) ≡ withBad said i
+  pub tell_bad : line_length rest < length rest → name_behind before (take (line_length rest) rest) ≡ NotName → tell said i before (lines_of rest) ≡ with_bad said i
   unfolding tell
-  tell-bad whole bad = rw (lines_next rest whole, bad)
+  tell_bad whole bad = rw (lines_next rest whole, bad)
 
-  pub tell-next : lineLength rest < length rest → (v : Name) → nameBehind before (take (lineLength rest) rest) ≡ IsName v
-      → tell said i before (lines_of rest) ≡ tell (withName said v) (i + 1) (take (lineLength rest) rest) (lines_of (drop (lineLength rest + 1) rest))
+  pub tell-next : line_length rest < length rest → (v : Name) → name_behind before (take (line_length rest) rest) ≡ IsName v
+      → tell said i before (lines_of rest) ≡ tell (with_name said v) (i + 1) (take (line_length rest) rest) (lines_of (drop (line_length rest + 1) rest))
   unfolding tell
   tell-next whole v is = rw (lines_next rest whole, is)
 
 -- ---- and all of them
 
 -- the bytes of the line before; where there is none, no bytes: every name is above that
-abbrev lastBytes : List Line → List ℕ
-lastBytes [] = []
-lastBytes (p ∷ earlier) = p.bytes
+abbrev last_bytes : List Line → List ℕ
+last_bytes [] = []
+last_bytes (p ∷ earlier) = p.bytes
 
-above-none : (v : Name) → below [] (encode v) ≡ true
+above_none : (v : Name) → below [] (encode v) ≡ true
 unfolding below
-above-none (Manifest n) = refl
-above-none (Object n) = refl
+above_none (Manifest n) = refl
+above_none (Object n) = refl
 
-above-last : (earlier : List Line) (l : Line) (v : Name) → decode l.bytes ≡ IsName v → isAbove earlier l ≡ below (lastBytes earlier) l.bytes
-above-last [] l v is = sym (ap (below []) (sym (round_trip.writesRead l.bytes v is).1) ∙ above-none v)
-above-last (p ∷ earlier) l v is = refl
+above_last : (earlier : List Line) (l : Line) (v : Name) → decode l.bytes ≡ IsName v → is_above earlier l ≡ below (last_bytes earlier) l.bytes
+above_last [] l v is = sym (ap (below []) (sym (round_trip_lem.writes_read l.bytes v is).1) ∙ above_none v)
+above_last (p ∷ earlier) l v is = refl
 
 -- what the reader makes of a line
 unfoldable read_of : List Line → Line → NameRead
-read_of earlier l = cond l.ended (nameBehind (lastBytes earlier) l.bytes) NotName
+read_of earlier l = cond l.ended (name_behind (last_bytes earlier) l.bytes) NotName
 
 -- a line is bad, or it is a name
 data Told (earlier : List Line) (l : Line) : Type 0 where
-  bad : read_of earlier l ≡ NotName → isBad earlier l ≡ true → Told earlier l
-  name : (v : Name) → read_of earlier l ≡ IsName v → isBad earlier l ≡ false → decode l.bytes ≡ IsName v → Told earlier l
+  bad : read_of earlier l ≡ NotName → is_bad earlier l ≡ true → Told earlier l
+  name : (v : Name) → read_of earlier l ≡ IsName v → is_bad earlier l ≡ false → decode l.bytes ≡ IsName v → Told earlier l
 
 told : (earlier : List Line) (l : Line) → Told earlier l
-unfolding read_of nameBehind
+unfolding read_of name_behind
 told earlier l = by_name (decode l.bytes) refl l.ended refl
   where
-    by_order : (v : Name) → decode l.bytes ≡ IsName v → l.ended ≡ true → (b : Bool) → below (lastBytes earlier) l.bytes ≡ b → Told earlier l
-    by_order v is ended true above = name v (rw (ended, above, is)) (rw (is, above-last earlier l v is, above, ended)) is
-    by_order v is ended false isn't = bad (rw (ended, isn't)) (rw (is, above-last earlier l v is, isn't, ended))
+    by_order : (v : Name) → decode l.bytes ≡ IsName v → l.ended ≡ true → (b : Bool) → below (last_bytes earlier) l.bytes ≡ b → Told earlier l
+    by_order v is ended true above = name v (rw (ended, above, is)) (rw (is, above_last earlier l v is, above, ended)) is
+    by_order v is ended false isn't = bad (rw (ended, isn't)) (rw (is, above_last earlier l v is, isn't, ended))
 
     by_name : (r : NameRead) → decode l.bytes ≡ r → (e : Bool) → l.ended ≡ e → Told earlier l
-    by_name (IsName v) is true ended = by_order v is ended (below (lastBytes earlier) l.bytes) refl
+    by_name (IsName v) is true ended = by_order v is ended (below (last_bytes earlier) l.bytes) refl
     by_name (IsName v) is false torn = bad (rw torn) (rw (is, torn))
-    by_name NotName is e ended = bad (rw is (no_name l.ended (below (lastBytes earlier) l.bytes))) (rw is)
+    by_name NotName is e ended = bad (rw is (no_name l.ended (below (last_bytes earlier) l.bytes))) (rw is)
       where
         no_name : (e b : Bool) → cond e (cond b NotName NotName) NotName ≡ NotName
         no_name true true = refl
         no_name true false = refl
         no_name false b = refl
 
-or-else-assoc : (a b c : Optional) → or_else a (or_else b c) ≡ or_else (or_else a b) c
-or-else-assoc None b c = refl
-or-else-assoc (Some n) b c = refl
+or_else_assoc : (a b c : Optional) → or_else a (or_else b c) ≡ or_else (or_else a b) c
+or_else_assoc None b c = refl
+or_else_assoc (Some n) b c = refl
 
 -- a name more, in the terms of the lists of names
-with-manifest : (said : Listing) (v : Name) → (withName said v).manifest ≡ or_else (manifestIn v) said.manifest
-with-manifest said (Manifest n) = refl
-with-manifest said (Object n) = refl
+with_manifest : (said : Listing) (v : Name) → (with_name said v).manifest ≡ or_else (manifest_in v) said.manifest
+with_manifest said (Manifest n) = refl
+with_manifest said (Object n) = refl
 
-with-objects : (said : Listing) (v : Name) (vs : List Name) → (withName said v).objects + objectsIn vs ≡ said.objects + objectsIn (v ∷ vs)
-unfolding objectsIn
-with-objects said (Manifest n) vs = refl
-with-objects said (Object n) vs = omega arith
+with_objects_lem : (said : Listing) (v : Name) (vs : List Name) → (with_name said v).objects + objects_in vs ≡ said.objects + objects_in (v ∷ vs)
+unfolding objects_in
+with_objects_lem said (Manifest n) vs = refl
+with_objects_lem said (Object n) vs = omega arith
 
 -- a name more is at most an object more
-pub with-few : (said : Listing) (v : Name) → (withName said v).objects ≤ said.objects + 1
-with-few said (Manifest n) = omega arith
-with-few said (Object n) = omega arith
+pub with_few : (said : Listing) (v : Name) → (with_name said v).objects ≤ said.objects + 1
+with_few said (Manifest n) = omega arith
+with_few said (Object n) = omega arith
 
-with-no-bad : (said : Listing) (v : Name) → (withName said v).bad ≡ said.bad
-with-no-bad said (Manifest n) = refl
-with-no-bad said (Object n) = refl
+with_no_bad : (said : Listing) (v : Name) → (with_name said v).bad ≡ said.bad
+with_no_bad said (Manifest n) = refl
+with_no_bad said (Object n) = refl
 
 -- what the lines before the first bad one, and whether there is one, add to what was said
 abbrev added : Listing → ℕ → List Line → List Line → Listing
 added said i g ls =
     record {
-      manifest = or_else (lastManifest (namesIn g)) said.manifest;
-      objects = said.objects + objectsIn (namesIn g);
+      manifest = or_else (last_manifest (names_in g)) said.manifest;
+      objects = said.objects + objects_in (names_in g);
       bad = cond (eqb (length g) (length ls)) said.bad (Some (i + length g));
     }
 
-added-name : (said : Listing) (i : ℕ) (l : Line) (g ls : List Line) (v : Name) → decode l.bytes ≡ IsName v → added (withName said v) (i + 1) g ls ≡ added said i (l ∷ g) (l ∷ ls)
-unfolding namesIn lastManifest
-added-name said i l g ls v is =
+added_name : (said : Listing) (i : ℕ) (l : Line) (g ls : List Line) (v : Name) → decode l.bytes ≡ IsName v → added (with_name said v) (i + 1) g ls ≡ added said i (l ∷ g) (l ∷ ls)
+unfolding names_in last_manifest
+added_name said i l g ls v is =
     let next : i + 1 + length g ≡ i + suc (length g) = omega arith in
-    rw (is, with-manifest said v, with-objects said v (namesIn g), with-no-bad said v, or-else-assoc (lastManifest (namesIn g)) (manifestIn v) said.manifest, eqb-suc-suc (length g) (length ls), next)
+    rw (is, with_manifest said v, with_objects_lem said v (names_in g), with_no_bad said v, or_else_assoc (last_manifest (names_in g)) (manifest_in v) said.manifest, eqb-suc-suc (length g) (length ls), next)
 
-added-bad : (said : Listing) (i : ℕ) (l : Line) (ls : List Line) → withBad said i ≡ added said i [] (l ∷ ls)
-unfolding namesIn lastManifest objectsIn
-added-bad said i l ls = rw (add-zero said.objects, add-zero i, ne_eqb 0 (suc (length ls)) (omega arith))
+added_bad : (said : Listing) (i : ℕ) (l : Line) (ls : List Line) → with_bad said i ≡ added said i [] (l ∷ ls)
+unfolding names_in last_manifest objects_in
+added_bad said i l ls = rw (add-zero said.objects, add-zero i, ne_eqb 0 (suc (length ls)) (omega arith))
 
 added_none : (said : Listing) (i : ℕ) → said ≡ added said i [] []
-unfolding namesIn lastManifest objectsIn
+unfolding names_in last_manifest objects_in
 added_none said i = rw (add-zero said.objects)
 
-tell-added : (ls earlier : List Line) (said : Listing) (i : ℕ) → tell said i (lastBytes earlier) ls ≡ added said i (goodBehind earlier ls) ls
-unfolding tell goodBehind read_of
+tell-added : (ls earlier : List Line) (said : Listing) (i : ℕ) → tell said i (last_bytes earlier) ls ≡ added said i (good_behind earlier ls) ls
+unfolding tell good_behind read_of
 tell-added [] earlier said i = added_none said i
-tell-added (l ∷ ls) earlier said i = by-line (told earlier l) (λ v. tell-added ls (l ∷ earlier) (withName said v) (i + 1))
+tell-added (l ∷ ls) earlier said i = by-line (told earlier l) (λ v. tell-added ls (l ∷ earlier) (with_name said v) (i + 1))
   where
-    by-line : Told earlier l → ((v : Name) → tell (withName said v) (i + 1) l.bytes ls ≡ added (withName said v) (i + 1) (goodBehind (l ∷ earlier) ls) ls)
-        → tell said i (lastBytes earlier) (l ∷ ls) ≡ added said i (goodBehind earlier (l ∷ ls)) (l ∷ ls)
-    by-line (bad is isn't) next = rw (is, isn't) (added-bad said i l ls)
-    by-line (name v is isn't named) next = rw (is, isn't) (next v ∙ added-name said i l (goodBehind (l ∷ earlier) ls) ls v named)
+    by-line : Told earlier l → ((v : Name) → tell (with_name said v) (i + 1) l.bytes ls ≡ added (with_name said v) (i + 1) (good_behind (l ∷ earlier) ls) ls)
+        → tell said i (last_bytes earlier) (l ∷ ls) ≡ added said i (good_behind earlier (l ∷ ls)) (l ∷ ls)
+    by-line (bad is isn't) next = rw (is, isn't) (added_bad said i l ls)
+    by-line (name v is isn't named) next = rw (is, isn't) (next v ∙ added_name said i l (good_behind (l ∷ earlier) ls) ls v named)
 
-pub tell-all : (bytes : List ℕ) → tell nothing 0 [] (lines_of bytes) ≡ listingOf bytes
-unfolding listingOf
-tell-all bytes = tell-added (lines_of bytes) [] nothing 0 ∙ rw (or-none (lastManifest (namesIn (good (lines_of bytes)))), highest-good (lines_of bytes), zero-add (objectsIn (namesIn (good (lines_of bytes)))), zero-add (length (good (lines_of bytes))))
+pub tell-all : (bytes : List ℕ) → tell nothing 0 [] (lines_of bytes) ≡ listing_of bytes
+unfolding listing_of
+tell-all bytes = tell-added (lines_of bytes) [] nothing 0 ∙ rw (or_none (last_manifest (names_in (good (lines_of bytes)))), highest-good (lines_of bytes), zero-add (objects_in (names_in (good (lines_of bytes)))), zero-add (length (good (lines_of bytes))))

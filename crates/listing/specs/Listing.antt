@@ -15,68 +15,68 @@ use Rattle.listing.specs.Lines.{Line, lines_of, below}
 -- ---- the first bad line
 
 -- a name was read
-abbrev pub isRead : NameRead → Bool
-isRead (IsName v) = true
-isRead NotName = false
+abbrev pub is_read : NameRead → Bool
+is_read (IsName v) = true
+is_read NotName = false
 
 -- the bytes are a name
-abbrev pub isName : List ℕ → Bool
-isName bytes = isRead (decode bytes)
+abbrev pub is_name : List ℕ → Bool
+is_name bytes = is_read (decode bytes)
 
 -- `earlier` has the lines before it, the nearest first: that one is its predecessor, and the first line has none
-abbrev pub isAbove : List Line → Line → Bool
-isAbove [] l = true
-isAbove (p ∷ earlier) l = below p.bytes l.bytes
+abbrev pub is_above : List Line → Line → Bool
+is_above [] l = true
+is_above (p ∷ earlier) l = below p.bytes l.bytes
 
 -- "A line is bad if it isn't a name, lacks 0A, or isn't above its predecessor in byte order."
-abbrev pub isBad : List Line → Line → Bool
-isBad earlier l = not (isName l.bytes) || (not l.ended || not (isAbove earlier l))
+abbrev pub is_bad : List Line → Line → Bool
+is_bad earlier l = not (is_name l.bytes) || (not l.ended || not (is_above earlier l))
 
 -- the lines before the first bad one, behind the lines `earlier`
-unfoldable pub goodBehind : List Line → List Line → List Line
-goodBehind earlier [] = []
-goodBehind earlier (l ∷ ls) = cond (isBad earlier l) [] (l ∷ goodBehind (l ∷ earlier) ls)
+unfoldable pub good_behind : List Line → List Line → List Line
+good_behind earlier [] = []
+good_behind earlier (l ∷ ls) = cond (is_bad earlier l) [] (l ∷ good_behind (l ∷ earlier) ls)
 
 abbrev pub good : List Line → List Line
-good ls = goodBehind [] ls
+good ls = good_behind [] ls
 
 -- the first bad line's number is how many are before it
-abbrev pub firstBad : List Line → Optional
-firstBad ls = cond (eqb (length (good ls)) (length ls)) None (Some (length (good ls)))
+abbrev pub first_bad : List Line → Optional
+first_bad ls = cond (eqb (length (good ls)) (length ls)) None (Some (length (good ls)))
 
 -- ---- what the lines before it say
 
 -- the name that was read, if one was, in front of others
-abbrev pub withRead : NameRead → List Name → List Name
-withRead (IsName v) vs = v ∷ vs
-withRead NotName vs = vs
+abbrev pub with_read : NameRead → List Name → List Name
+with_read (IsName v) vs = v ∷ vs
+with_read NotName vs = vs
 
 -- the names that the lines are
-unfoldable pub namesIn : List Line → List Name
-namesIn [] = []
-namesIn (l ∷ ls) = withRead (decode l.bytes) (namesIn ls)
+unfoldable pub names_in : List Line → List Name
+names_in [] = []
+names_in (l ∷ ls) = with_read (decode l.bytes) (names_in ls)
 
 -- the higher of a number and one that may be none
-abbrev pub higherOf : ℕ → Optional → Optional
-higherOf n None = Some n
-higherOf n (Some m) = Some (max n m)
+abbrev pub higher_of : ℕ → Optional → Optional
+higher_of n None = Some n
+higher_of n (Some m) = Some (max n m)
 
 -- the highest manifest number, or none
 unfoldable pub highest : List Name → Optional
 highest [] = None
-highest (Manifest n ∷ vs) = higherOf n (highest vs)
+highest (Manifest n ∷ vs) = higher_of n (highest vs)
 highest (Object n ∷ vs) = highest vs
 
 -- the number of objects
-unfoldable pub objectsIn : List Name → ℕ
-objectsIn [] = 0
-objectsIn (Manifest n ∷ vs) = objectsIn vs
-objectsIn (Object n ∷ vs) = suc (objectsIn vs)
+unfoldable pub objects_in : List Name → ℕ
+objects_in [] = 0
+objects_in (Manifest n ∷ vs) = objects_in vs
+objects_in (Object n ∷ vs) = suc (objects_in vs)
 
 -- what lines say
 abbrev pub said : List Line → Listing
-said ls = record { manifest = highest (namesIn (good ls)); objects = objectsIn (namesIn (good ls)); bad = firstBad ls }
+said ls = record { manifest = highest (names_in (good ls)); objects = objects_in (names_in (good ls)); bad = first_bad ls }
 
 -- what the bytes say as a listing
-unfoldable pub listingOf : List ℕ → Listing
-listingOf bytes = said (lines_of bytes)
+unfoldable pub listing_of : List ℕ → Listing
+listing_of bytes = said (lines_of bytes)

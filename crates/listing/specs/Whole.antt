@@ -5,28 +5,28 @@ use Rattle.rules.specs.Lists.{keep, all}
 use Rattle.arrays.specs.Arrays.{chain}
 use Rattle.store_names.specs.declared.Name.{Name}
 use Rattle.store_names.specs.declared.Name.TheVariants.{Manifest, Object}
-use Rattle.store_names.specs.Names.{encode, is_taken, sameBytes, objectFolder}
+use Rattle.store_names.specs.Names.{encode, is_taken, same_bytes, object_folder}
 use Rattle.listing.specs.declared.Optional.{Optional}
 use Rattle.listing.specs.declared.Optional.TheVariants.{None, Some}
-use Rattle.listing.specs.Lines.{Line, lineEnd, lines_of, below}
-use Rattle.listing.specs.Listing.{namesIn, objectsIn, listingOf}
+use Rattle.listing.specs.Lines.{Line, line_end, lines_of, below}
+use Rattle.listing.specs.Listing.{names_in, objects_in, listing_of}
 
 -- a manifest stands before an object, and each kind goes by its number
-abbrev pub isBefore : Name → Name → Bool
-isBefore (Manifest m) (Manifest n) = ltb m n
-isBefore (Manifest m) (Object n) = true
-isBefore (Object m) (Manifest n) = false
-isBefore (Object m) (Object n) = ltb m n
+abbrev pub is_before : Name → Name → Bool
+is_before (Manifest m) (Manifest n) = ltb m n
+is_before (Manifest m) (Object n) = true
+is_before (Object m) (Manifest n) = false
+is_before (Object m) (Object n) = ltb m n
 
 -- each name stands before the next
 abbrev pub rising : List Name → Bool
 rising [] = true
-rising (v ∷ vs) = chain isBefore v vs
+rising (v ∷ vs) = chain is_before v vs
 
 -- the names as the store hands them to us, a line each
 unfoldable pub text_of : List Name → List ℕ
 text_of [] = []
-text_of (v ∷ vs) = encode v ++ lineEnd ∷ text_of vs
+text_of (v ∷ vs) = encode v ++ line_end ∷ text_of vs
 
 -- the first, or the second where the first is none
 abbrev pub or_else : Optional → Optional → Optional
@@ -34,29 +34,29 @@ or_else None o = o
 or_else (Some n) o = Some n
 
 -- a manifest's number
-abbrev pub manifestIn : Name → Optional
-manifestIn (Manifest n) = Some n
-manifestIn (Object n) = None
+abbrev pub manifest_in : Name → Optional
+manifest_in (Manifest n) = Some n
+manifest_in (Object n) = None
 
 -- the last manifest's number, or none
-unfoldable pub lastManifest : List Name → Optional
-lastManifest [] = None
-lastManifest (v ∷ vs) = or_else (lastManifest vs) (manifestIn v)
+unfoldable pub last_manifest : List Name → Optional
+last_manifest [] = None
+last_manifest (v ∷ vs) = or_else (last_manifest vs) (manifest_in v)
 
 -- a `wal/` line
-abbrev pub isInWal : Line → Bool
-isInWal l = sameBytes (take (length objectFolder) l.bytes) objectFolder
+abbrev pub is_in_wal : Line → Bool
+is_in_wal l = same_bytes (take (length object_folder) l.bytes) object_folder
 
 -- claimed
 pub record Whole : Type 0 where
   -- the order of names is the byte order of what is written
-  pub order : (v w : Name) → is_taken v ≡ true → is_taken w ≡ true → below (encode v) (encode w) ≡ isBefore v w
+  pub order : (v w : Name) → is_taken v ≡ true → is_taken w ≡ true → below (encode v) (encode w) ≡ is_before v w
   -- the text of rising names is a whole listing, which says their last manifest and how many objects they have
   pub written : (vs : List Name) → all is_taken vs ≡ true → rising vs ≡ true
-      → listingOf (text_of vs) ≡ record { manifest = lastManifest vs; objects = objectsIn vs; bad = None }
+      → listing_of (text_of vs) ≡ record { manifest = last_manifest vs; objects = objects_in vs; bad = None }
   -- and no other bytes are one: a whole listing is the text of its names, which rise
-  pub read : (bytes : List ℕ) → (listingOf bytes).bad ≡ None
-      → (all is_taken (namesIn (lines_of bytes)) ≡ true) × (rising (namesIn (lines_of bytes)) ≡ true) × (text_of (namesIn (lines_of bytes)) ≡ bytes)
+  pub read : (bytes : List ℕ) → (listing_of bytes).bad ≡ None
+      → (all is_taken (names_in (lines_of bytes)) ≡ true) × (rising (names_in (lines_of bytes)) ≡ true) × (text_of (names_in (lines_of bytes)) ≡ bytes)
   -- of a whole listing the highest manifest is that of the last manifest line, and the number of objects that of `wal/` lines
-  pub last : (bytes : List ℕ) → (listingOf bytes).bad ≡ None → (listingOf bytes).manifest ≡ lastManifest (namesIn (lines_of bytes))
-  pub count : (bytes : List ℕ) → (listingOf bytes).bad ≡ None → (listingOf bytes).objects ≡ length (keep isInWal (lines_of bytes))
+  pub last : (bytes : List ℕ) → (listing_of bytes).bad ≡ None → (listing_of bytes).manifest ≡ last_manifest (names_in (lines_of bytes))
+  pub count : (bytes : List ℕ) → (listing_of bytes).bad ≡ None → (listing_of bytes).objects ≡ length (keep is_in_wal (lines_of bytes))

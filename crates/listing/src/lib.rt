@@ -3,8 +3,8 @@
 ghost use Rattle.std.specs.Prelude.{◌≡◌, ◌<◌};
 ghost use Rattle.store_names.specs.Decimal.{largest};
 ghost use Rattle.listing.specs.Lines.{below};
-ghost use Rattle.listing.specs.Listing.{listingOf};
-ghost use Rattle.listing.specs.Turns.{lineLength, nameBehind, withName, withBad};
+ghost use Rattle.listing.specs.Listing.{listing_of};
+ghost use Rattle.listing.specs.Turns.{line_length, name_behind, with_name, with_bad};
 
 use store_names::{Name, NameRead};
 
@@ -29,7 +29,7 @@ pub struct Listing {
 
 // How many bytes the line at the front has: those before the first 0A, or all.
 fn line_length(bytes: &[u8]) -> usize
-    ensures { result ≡ lineLength bytes.now }
+    ensures { result ≡ line_length bytes.now }
 {
     let mut i = 0;
     while i < bytes.len() {
@@ -63,7 +63,7 @@ fn is_below(a: &[u8], b: &[u8]) -> bool
 
 // The name that a line is, where it stands above the line before.
 fn name_behind(before: &[u8], line: &[u8]) -> NameRead
-    ensures { result ≡ nameBehind before.now line.now }
+    ensures { result ≡ name_behind before.now line.now }
 {
     if !is_below(before, line) {
         return NameRead::Malformed;
@@ -74,7 +74,7 @@ fn name_behind(before: &[u8], line: &[u8]) -> NameRead
 // What lines say with a name more: a manifest is then the highest, since lines rise.
 fn with_name(said: Listing, name: Name) -> Listing
     requires { said.objects < largest }
-    ensures { result ≡ withName said name }
+    ensures { result ≡ with_name said name }
 {
     let manifest = said.manifest;
     let bad = said.bad;
@@ -94,7 +94,7 @@ fn with_name(said: Listing, name: Name) -> Listing
 
 // What lines say where the one behind them is bad.
 fn with_bad(said: Listing, line: u64) -> Listing
-    ensures { result ≡ withBad said line }
+    ensures { result ≡ with_bad said line }
 {
     let manifest = said.manifest;
     Listing {
@@ -106,7 +106,7 @@ fn with_bad(said: Listing, line: u64) -> Listing
 
 // Reads all the bytes lent as a listing. The line before is empty at first: every name is above that.
 pub fn read_listing(bytes: &[u8]) -> Listing
-    ensures { result ≡ listingOf bytes.now }
+    ensures { result ≡ listing_of bytes.now }
 {
     let mut said = Listing {
         manifest: Optional::None,

@@ -6,7 +6,7 @@ use Rattle.exports.specs.Names.{Call}
 use Rattle.listing.specs.declared.Optional.{Optional}
 use Rattle.listing.specs.declared.Optional.TheVariants.{None, Some}
 use Rattle.listing.specs.declared.Listing.{Listing}
-use Rattle.listing.specs.Listing.{listingOf}
+use Rattle.listing.specs.Listing.{listing_of}
 
 -- a number that may be none is two: whether there is one, and it or 0
 abbrev pub is_some : Optional → ℕ
@@ -18,16 +18,16 @@ or_zero None = 0
 or_zero (Some n) = n
 
 -- how many numbers a listing has
-abbrev pub listingSize : ℕ
-listingSize = 4
+abbrev pub listing_size : ℕ
+listing_size = 4
 
 -- whether there is a manifest, the highest, the number of objects, the first bad line
-abbrev pub listingNumbers : Listing → List ℕ
-listingNumbers l = is_some l.manifest ∷ or_zero l.manifest ∷ l.objects ∷ or_zero l.bad ∷ []
+abbrev pub listing_numbers : Listing → List ℕ
+listing_numbers l = is_some l.manifest ∷ or_zero l.manifest ∷ l.objects ∷ or_zero l.bad ∷ []
 
 -- 3 where there is no place for the numbers; else whether a line is bad
-unfoldable pub readListing : List ℕ → List ℕ → Call
-readListing bytes numbers =
-    cond (ltb (length numbers) listingSize)
+unfoldable pub read_listing : List ℕ → List ℕ → Call
+read_listing bytes numbers =
+    cond (ltb (length numbers) listing_size)
     (record { answer = 3; left = numbers })
-    (record { answer = is_some (listingOf bytes).bad; left = over (listingNumbers (listingOf bytes)) numbers })
+    (record { answer = is_some (listing_of bytes).bad; left = over (listing_numbers (listing_of bytes)) numbers })

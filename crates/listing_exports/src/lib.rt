@@ -1,6 +1,6 @@
 // The listing of a bucket for C: bytes and numbers, no `requires`. include/cuudhaqil_listing.h says what the call promises.
 ghost use Rattle.std.specs.Prelude.{◌≡◌};
-ghost use Rattle.listing_exports.specs.Calls.{is_some, or_zero, readListing};
+ghost use Rattle.listing_exports.specs.Calls.{is_some, or_zero, read_listing};
 
 use exports::{NO_PLACE, codec};
 use listing::Optional;
@@ -31,7 +31,7 @@ fn or_zero(o: Optional) -> u64
 // Reads all the bytes as a listing: its four numbers, and whether a line is bad.
 #[unsafe(no_mangle)]
 pub extern "C" fn cuudhaqil_read_listing(bytes: &[u8], numbers: &mut [u64]) -> u64
-    ensures { readListing bytes.now numbers.old ≡ record { answer = result; left = numbers.new } }
+    ensures { read_listing bytes.now numbers.old ≡ record { answer = result; left = numbers.new } }
 {
     if numbers.len() < LISTING {
         return NO_PLACE;

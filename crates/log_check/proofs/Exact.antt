@@ -12,49 +12,49 @@ use lib.ListN.{length, take, length-append}
 use borrow.Author.Tests.{leb-true, leb-false}
 use Rattle.rules.specs.Lists.{none}
 use Rattle.objects.specs.Objects.{same}
-use Rattle.rules.specs.Step.{longestVerdict}
+use Rattle.rules.specs.Step.{longest_verdict}
 use Rattle.rules.specs.Struck.{each}
 use Rattle.rules.proofs.Lists.{and_left, and_right, decide}
-use Rattle.objects.proofs.Places.{same-eq, same_refl}
+use Rattle.objects.proofs.Places.{same_eq, same_refl}
 use Rattle.ledger.specs.declared.Ledger.{Ledger}
 use Rattle.replay.specs.declared.Ending.{Ending}
 use Rattle.replay.specs.declared.Ending.TheVariants.{Whole, Torn, Full}
-use Rattle.replay.specs.Front.{answerBytes}
-use Rattle.replay.specs.Replay.{Told, tell, Cut, cut, endingOf, replayOf}
+use Rattle.replay.specs.Front.{answer_bytes}
+use Rattle.replay.specs.Replay.{Told, tell, Cut, cut, ending_of, replay_of}
 use Rattle.replay.specs.Struck.{leaves}
 use Rattle.replay.proofs.Answers.{answer-fits}
-use Rattle.replay.proofs.Counts.{counted, ends-whole}
+use Rattle.replay.proofs.Counts.{counted, ends_whole}
 use Rattle.replay.proofs.Cutting.{cut-joined}
-use Rattle.replay.proofs.Struck.{tell-all, room-for-all}
+use Rattle.replay.proofs.Struck.{tell-all, room_for_all}
 use Rattle.log_check.specs.declared.Checked.TheVariants.{Agree, Differs}
-use Rattle.log_check.specs.Check.{due, logged, bothWhole, compared, checkedOf}
-use Rattle.log_check.specs.Exact.{ownLog, FirstAt, FirstInBytes, LogChecked}
-use Rattle.log_check.proofs.InBytes.{agreed, index_of, first-in-bytes, bytes-first}
+use Rattle.log_check.specs.Check.{due, logged, both_whole, compared, checked_of}
+use Rattle.log_check.specs.Exact.{own_log, FirstAt, FirstInBytes, LogChecked}
+use Rattle.log_check.proofs.InBytes.{agreed, index_of, first_in_bytes_lem, bytes-first}
 use Rattle.log_check.proofs.Loop.{checked-found}
 
 -- ---- how a run ends
 
-abbrev isTorn : Ending → Bool
-isTorn Whole = false
-isTorn Torn = true
-isTorn Full = false
+abbrev is_torn : Ending → Bool
+is_torn Whole = false
+is_torn Torn = true
+is_torn Full = false
 
-abbrev isFull : Ending → Bool
-isFull Whole = false
-isFull Torn = false
-isFull Full = true
+abbrev is_full : Ending → Bool
+is_full Whole = false
+is_full Torn = false
+is_full Full = true
 
-ends-torn : (full : Bool) (rest : List ℕ) → endingOf full rest ≡ Torn → none rest ≡ false
+ends_torn : (full : Bool) (rest : List ℕ) → ending_of full rest ≡ Torn → none rest ≡ false
 unfolding none
-ends-torn true rest e = absurd (false≢true (ap isTorn e))
-ends-torn false [] e = absurd (false≢true (ap isTorn e))
-ends-torn false (b ∷ rest) e = refl
+ends_torn true rest e = absurd (false≢true (ap is_torn e))
+ends_torn false [] e = absurd (false≢true (ap is_torn e))
+ends_torn false (b ∷ rest) e = refl
 
-ends-full : (full : Bool) (rest : List ℕ) → endingOf full rest ≡ Full → full ≡ true
+ends_full : (full : Bool) (rest : List ℕ) → ending_of full rest ≡ Full → full ≡ true
 unfolding none
-ends-full true rest e = refl
-ends-full false [] e = absurd (false≢true (ap isFull e))
-ends-full false (b ∷ rest) e = absurd (false≢true (ap isFull e))
+ends_full true rest e = refl
+ends_full false [] e = absurd (false≢true (ap is_full e))
+ends_full false (b ∷ rest) e = absurd (false≢true (ap is_full e))
 
 nothing : (l : List ℕ) → none l ≡ true → l ≡ []
 unfolding none
@@ -62,10 +62,10 @@ nothing [] e = refl
 nothing (n ∷ l) e = absurd (false≢true e)
 
 -- the longest verdict for each record
-due-short : (l : Ledger) (rs : List (List ℕ)) → length (flatten (each leaves answerBytes l rs)) ≤ length rs * longestVerdict
+due-short : (l : Ledger) (rs : List (List ℕ)) → length (flatten (each leaves answer_bytes l rs)) ≤ length rs * longest_verdict
 unfolding each flatten
 due-short l [] = omega arith
-due-short l (r ∷ rs) = omega (arith, due-short (leaves l r) rs, answer-fits l r, length-append (answerBytes l r) (flatten (each leaves answerBytes (leaves l r) rs)))
+due-short l (r ∷ rs) = omega (arith, due-short (leaves l r) rs, answer-fits l r, length-append (answer_bytes l r) (flatten (each leaves answer_bytes (leaves l r) rs)))
 
 -- ---- what is found of verdicts
 
@@ -79,13 +79,13 @@ agree_same i (v ∷ vs) (w ∷ ws) b e = step (same v w) refl e (agree_same (suc
   where
     step : (c : Bool) → same v w ≡ c → cond c (compared (suc i) vs ws b) (Differs i) ≡ Agree → (compared (suc i) vs ws b ≡ Agree → (vs ≡ ws) × (b ≡ true))
         → (v ∷ vs ≡ w ∷ ws) × (b ≡ true)
-    step true q e f = (ap₂ ◌∷◌ (same-eq v w q) (f e).0, (f e).1)
+    step true q e f = (ap₂ ◌∷◌ (same_eq v w q) (f e).0, (f e).1)
     step false q e f = absurd (false≢true (ap agreed e))
 
-same-agree : (i : ℕ) (vs : List (List ℕ)) → compared i vs vs true ≡ Agree
+same_agree : (i : ℕ) (vs : List (List ℕ)) → compared i vs vs true ≡ Agree
 unfolding compared
-same-agree i [] = refl
-same-agree i (v ∷ vs) = ap (λ (b : Bool). cond b (compared (suc i) vs vs true) (Differs i)) (same_refl v) ∙ same-agree (suc i) vs
+same_agree i [] = refl
+same_agree i (v ∷ vs) = ap (λ (b : Bool). cond b (compared (suc i) vs vs true) (Differs i)) (same_refl v) ∙ same_agree (suc i) vs
 
 -- ---- the index
 
@@ -107,15 +107,15 @@ From i n vs ws b = (k : ℕ) × (n ≡ i + k) × FirstAt vs ws b k
 
 -- it is at once
 here : (i n : ℕ) (vs ws : List (List ℕ)) (b : Bool) → Differs i ≡ Differs n → At vs ws b 0 → From i n vs ws b
-here i n vs ws b e d = (0, (let q = ap index_of e in omega arith), record { before = refl; inDue = omega arith; inLog = omega arith; differs = d })
+here i n vs ws b e d = (0, (let q = ap index_of e in omega arith), record { before = refl; in_due = omega arith; in_log = omega arith; differs = d })
 
 -- behind a verdict that is the same
 module _ (v : List ℕ) (vs ws : List (List ℕ)) (b : Bool) (k : ℕ) where
-  first-cons : FirstAt vs ws b k → FirstAt (v ∷ vs) (v ∷ ws) b (suc k)
-  first-cons f = record {
+  first_cons : FirstAt vs ws b k → FirstAt (v ∷ vs) (v ∷ ws) b (suc k)
+  first_cons f = record {
     before = ap (λ (us : List (List ℕ)). v ∷ us) f.before;
-    inDue = let z = f.inDue in omega arith;
-    inLog = let z = f.inLog in omega arith;
+    in_due = let z = f.in_due in omega arith;
+    in_log = let z = f.in_log in omega arith;
     differs = on f.differs;
   }
     where
@@ -126,8 +126,8 @@ module _ (v : List ℕ) (vs ws : List (List ℕ)) (b : Bool) (k : ℕ) where
   first_tail : FirstAt (v ∷ vs) (v ∷ ws) b (suc k) → FirstAt vs ws b k
   first_tail f = record {
     before = ap tail f.before;
-    inDue = let z = f.inDue in omega arith;
-    inLog = let z = f.inLog in omega arith;
+    in_due = let z = f.in_due in omega arith;
+    in_log = let z = f.in_log in omega arith;
     differs = on f.differs;
   }
     where
@@ -146,7 +146,7 @@ differs-first i n (v ∷ vs) (w ∷ ws) b e = step (same v w) refl e (differs-fi
     step : (c : Bool) → same v w ≡ c → cond c (compared (suc i) vs ws b) (Differs i) ≡ Differs n → (compared (suc i) vs ws b ≡ Differs n → From (suc i) n vs ws b) → From i n (v ∷ vs) (w ∷ ws) b
     step true q e f =
         let r = f e in
-        (suc r.0, (let z = r.1 in omega arith), subst (λ (u : List ℕ). FirstAt (v ∷ vs) (u ∷ ws) b (suc r.0)) (same-eq v w q) (first-cons v vs ws b r.0 r.2))
+        (suc r.0, (let z = r.1 in omega arith), subst (λ (u : List ℕ). FirstAt (v ∷ vs) (u ∷ ws) b (suc r.0)) (same_eq v w q) (first_cons v vs ws b r.0 r.2))
     step false q e f = here i n (v ∷ vs) (w ∷ ws) b e (inl (λ p. true≢false (sym (same_refl v) ∙ ap (same v) (ap head p) ∙ q)))
 
 first-differs : (i k : ℕ) (vs ws : List (List ℕ)) (b : Bool) → FirstAt vs ws b k → compared i vs ws b ≡ Differs (i + k)
@@ -161,14 +161,14 @@ first-differs i zero (v ∷ vs) [] b f = ap Differs (sym (add-zero i))
 first-differs i zero (v ∷ vs) (w ∷ ws) b f = step (same v w) refl
   where
     not_same : same v w ≡ true → At (v ∷ vs) (w ∷ ws) b 0 → ⊥
-    not_same q (inl d) = d (ap (λ (u : List ℕ). u ∷ []) (same-eq v w q))
+    not_same q (inl d) = d (ap (λ (u : List ℕ). u ∷ []) (same_eq v w q))
     not_same q (inr d) = omega (arith, d.0)
 
     step : (c : Bool) → same v w ≡ c → cond c (compared (suc i) vs ws b) (Differs i) ≡ Differs (i + 0)
     step true q = absurd (not_same q f.differs)
     step false q = ap Differs (sym (add-zero i))
-first-differs i (suc k) [] ws b f = absurd (omega (arith, f.inDue))
-first-differs i (suc k) (v ∷ vs) [] b f = absurd (omega (arith, f.inLog))
+first-differs i (suc k) [] ws b f = absurd (omega (arith, f.in_due))
+first-differs i (suc k) (v ∷ vs) [] b f = absurd (omega (arith, f.in_log))
 first-differs i (suc k) (v ∷ vs) (w ∷ ws) b f =
     let q : v ≡ w = ap head f.before in
     ap (λ (c : Bool). cond c (compared (suc i) vs ws b) (Differs i)) (ap (same v) (sym q) ∙ same_refl v)
@@ -182,78 +182,78 @@ module _ (l : Ledger) (trace log : List ℕ) where
   told out = tell l (length out) (cut trace).records
 
   -- a verdict lacks room exactly where they do not all fit
-  full-long : (out : List ℕ) → (told out).full ≡ true → length out < length (flatten (due l trace))
-  full-long out e = by (decide (leb (length (flatten (due l trace))) (length out)))
+  full_long : (out : List ℕ) → (told out).full ≡ true → length out < length (flatten (due l trace))
+  full_long out e = by (decide (leb (length (flatten (due l trace))) (length out)))
     where
       by : (leb (length (flatten (due l trace))) (length out) ≡ true) ⊎ (leb (length (flatten (due l trace))) (length out) ≡ false) → length out < length (flatten (due l trace))
       by (inl h) = absurd (true≢false (sym e ∙ ap (λ (t : Told). t.full) (tell-all (cut trace).records l (length out) (leb-true _ _ h))))
       by (inr h) = leb-false _ _ h
 
-  long-full : (out : List ℕ) → length out < length (flatten (due l trace)) → (told out).full ≡ true
-  long-full out h = by (told out).full refl
+  long_full : (out : List ℕ) → length out < length (flatten (due l trace)) → (told out).full ≡ true
+  long_full out h = by (told out).full refl
     where
       by : (b : Bool) → (told out).full ≡ b → b ≡ true
       by true e = refl
-      by false e = absurd (omega (arith, h, room-for-all (cut trace).records l (length out) e))
+      by false e = absurd (omega (arith, h, room_for_all (cut trace).records l (length out) e))
 
   -- the log that is due is the only one
-  module _ (out : List ℕ) (e : (replayOf l trace out).answer.ending ≡ Whole) where
+  module _ (out : List ℕ) (e : (replay_of l trace out).answer.ending ≡ Whole) where
     whole : ((told out).full ≡ false) × ((cut trace).rest ≡ [])
-    unfolding replayOf
-    whole = ends-whole (told out).full (cut trace).rest e
+    unfolding replay_of
+    whole = ends_whole (told out).full (cut trace).rest e
 
     all-due : (told out).verdicts ≡ due l trace
-    all-due = ap (λ (t : Told). t.verdicts) (tell-all (cut trace).records l (length out) (room-for-all (cut trace).records l (length out) whole.0))
+    all-due = ap (λ (t : Told). t.verdicts) (tell-all (cut trace).records l (length out) (room_for_all (cut trace).records l (length out) whole.0))
 
-    accepted : checkedOf l trace log ≡ Agree → log ≡ ownLog l trace out
-    unfolding checkedOf
+    accepted : checked_of l trace log ≡ Agree → log ≡ own_log l trace out
+    unfolding checked_of
     accepted a =
-        let s = agree_same 0 (due l trace) (logged log) (bothWhole trace log) a in
+        let s = agree_same 0 (due l trace) (logged log) (both_whole trace log) a in
         sym (cut-joined log)
         ∙ ap (λ (x : List ℕ). flatten (cut log).records ++ x) (nothing (cut log).rest (and_right (none (cut trace).rest) (none (cut log).rest) s.1))
         ∙ append-nil (flatten (cut log).records)
         ∙ ap flatten (sym s.0 ∙ sym all-due)
         ∙ sym (counted l trace out).written
 
-    accepts : log ≡ ownLog l trace out → checkedOf l trace log ≡ Agree
-    unfolding checkedOf none
+    accepts : log ≡ own_log l trace out → checked_of l trace log ≡ Agree
+    unfolding checked_of none
     accepts q =
         ap (λ (c : Cut). compared 0 (due l trace) c.records (none (cut trace).rest && none c.rest)) (ap cut (q ∙ (counted l trace out).written) ∙ (counted l trace out).readable)
         ∙ ap₂ (λ (vs : List (List ℕ)) (r : List ℕ). compared 0 (due l trace) vs (none r && true)) all-due whole.1
-        ∙ same-agree 0 (due l trace)
+        ∙ same_agree 0 (due l trace)
 
-  torn : (out : List ℕ) → (replayOf l trace out).answer.ending ≡ Torn → checkedOf l trace log ≡ Agree → ⊥
-  unfolding replayOf checkedOf
+  torn : (out : List ℕ) → (replay_of l trace out).answer.ending ≡ Torn → checked_of l trace log ≡ Agree → ⊥
+  unfolding replay_of checked_of
   torn out e a = true≢false (
-      sym (and_left (none (cut trace).rest) (none (cut log).rest) (agree_same 0 (due l trace) (logged log) (bothWhole trace log) a).1)
-      ∙ ends-torn (told out).full (cut trace).rest e)
+      sym (and_left (none (cut trace).rest) (none (cut log).rest) (agree_same 0 (due l trace) (logged log) (both_whole trace log) a).1)
+      ∙ ends_torn (told out).full (cut trace).rest e)
 
-  full : (out : List ℕ) → ((replayOf l trace out).answer.ending ≡ Full) ↔ (length out < length (flatten (due l trace)))
-  unfolding replayOf
+  full : (out : List ℕ) → ((replay_of l trace out).answer.ending ≡ Full) ↔ (length out < length (flatten (due l trace)))
+  unfolding replay_of
   full out = (
-    (λ e. full-long out (ends-full (told out).full (cut trace).rest e)),
-    (λ h. ap (λ (b : Bool). endingOf b (cut trace).rest) (long-full out h)),
+    (λ e. full_long out (ends_full (told out).full (cut trace).rest e)),
+    (λ h. ap (λ (b : Bool). ending_of b (cut trace).rest) (long_full out h)),
   )
 
-  first : (n : ℕ) → (checkedOf l trace log ≡ Differs n) ↔ FirstAt (due l trace) (logged log) (bothWhole trace log) n
-  unfolding checkedOf
+  first : (n : ℕ) → (checked_of l trace log ≡ Differs n) ↔ FirstAt (due l trace) (logged log) (both_whole trace log) n
+  unfolding checked_of
   first n = (
-    (λ e. let r = differs-first 0 n (due l trace) (logged log) (bothWhole trace log) e in subst (FirstAt (due l trace) (logged log) (bothWhole trace log)) (let z = r.1 in omega arith) r.2),
-    (λ f. first-differs 0 n (due l trace) (logged log) (bothWhole trace log) f ∙ ap Differs (zero-add n)),
+    (λ e. let r = differs-first 0 n (due l trace) (logged log) (both_whole trace log) e in subst (FirstAt (due l trace) (logged log) (both_whole trace log)) (let z = r.1 in omega arith) r.2),
+    (λ f. first-differs 0 n (due l trace) (logged log) (both_whole trace log) f ∙ ap Differs (zero-add n)),
   )
 
-  bytes : (n : ℕ) → (checkedOf l trace log ≡ Differs n) ↔ FirstInBytes (due l trace) (none (cut trace).rest) log n
+  bytes : (n : ℕ) → (checked_of l trace log ≡ Differs n) ↔ FirstInBytes (due l trace) (none (cut trace).rest) log n
   bytes n = (
-    (λ e. let r = first-in-bytes 0 n (due l trace) (none (cut trace).rest) log (sym (checked-found l trace log) ∙ e) in subst (FirstInBytes (due l trace) (none (cut trace).rest) log) (let z = r.1 in omega arith) r.2),
+    (λ e. let r = first_in_bytes_lem 0 n (due l trace) (none (cut trace).rest) log (sym (checked-found l trace log) ∙ e) in subst (FirstInBytes (due l trace) (none (cut trace).rest) log) (let z = r.1 in omega arith) r.2),
     (λ f. checked-found l trace log ∙ bytes-first 0 n (due l trace) (none (cut trace).rest) log f ∙ ap Differs (zero-add n)),
   )
 
-  pub log-checked : LogChecked l trace log
-  log-checked = record {
+  pub log_checked : LogChecked l trace log
+  log_checked = record {
     whole = λ out e. (accepted out e, accepts out e);
     torn = torn;
     enough = full;
     most = due-short l (cut trace).records;
     first = first;
-    firstInBytes = bytes;
+    first_in_bytes = bytes;
   }

@@ -17,21 +17,21 @@ use Rattle.fields.specs.Fields.{next_of}
 use Rattle.rules.specs.Lists.{none}
 use Rattle.objects.specs.Objects.{same}
 use Rattle.rules.proofs.Lists.{and_both, and_left, and_right}
-use Rattle.objects.proofs.Places.{same-eq, same_refl}
+use Rattle.objects.proofs.Places.{same_eq, same_refl}
 use Rattle.rules.proofs.Typed.{length_none}
 use Rattle.replay.specs.Replay.{Cut, cut_at, cut}
 use Rattle.replay.proofs.Counts.{Fields}
 use Rattle.replay.proofs.Cutting.{Found, next-found, cut-next}
 use Rattle.log_check.specs.declared.Checked.{Checked}
 use Rattle.log_check.specs.declared.Checked.TheVariants.{Agree, Differs}
-use Rattle.log_check.specs.Check.{compared, isPrefix}
+use Rattle.log_check.specs.Check.{compared, is_prefix}
 use Rattle.log_check.specs.Exact.{FirstInBytes}
-use Rattle.log_check.proofs.Prefix.{prefix-append, prefix-behind, prefix-split}
+use Rattle.log_check.proofs.Prefix.{prefix_append, prefix_behind, prefix_split}
 
 -- these verdicts are due from index i on; ends: the trace does not end in a torn record
-unfoldable pub inBytes : ℕ → List (List ℕ) → Bool → List ℕ → Checked
-inBytes i [] ends log = cond (ends && none log) Agree (Differs i)
-inBytes i (v ∷ vs) ends log = cond (isPrefix v log) (inBytes (suc i) vs ends (drop (length v) log)) (Differs i)
+unfoldable pub in_bytes : ℕ → List (List ℕ) → Bool → List ℕ → Checked
+in_bytes i [] ends log = cond (ends && none log) Agree (Differs i)
+in_bytes i (v ∷ vs) ends log = cond (is_prefix v log) (in_bytes (suc i) vs ends (drop (length v) log)) (Differs i)
 
 -- ---- it is what is found of the log's records
 
@@ -55,9 +55,9 @@ torn-due i (w ∷ ws) = refl
 
 -- a verdict is due: the log starts with it, or differs
 module _ (i : ℕ) (v : List ℕ) (field : (rest : List ℕ) → next_of (v ++ rest) ≡ Record (length v)) (vs : List (List ℕ)) (ends : Bool) (log : List ℕ) where
-  due-there : isPrefix v log ≡ true → against i (v ∷ vs) ends (cut log) ≡ against (suc i) vs ends (cut (drop (length v) log))
+  due_there : is_prefix v log ≡ true → against i (v ∷ vs) ends (cut log) ≡ against (suc i) vs ends (cut (drop (length v) log))
   unfolding compared
-  due-there e =
+  due_there e =
       ap (λ (bs : List ℕ). against i (v ∷ vs) ends (cut bs)) (sym split)
       ∙ ap (against i (v ∷ vs) ends) (cut-next (v ++ rest) ∙ ap (λ (x : Next). cut_at x (v ++ rest) cut) (field rest))
       ∙ ap (λ (w : List ℕ). compared i (v ∷ vs) (w ∷ (cut (drop (length v) (v ++ rest))).records) (ends && none (cut (drop (length v) (v ++ rest))).rest)) (take-append_seam v rest)
@@ -68,14 +68,14 @@ module _ (i : ℕ) (v : List ℕ) (field : (rest : List ℕ) → next_of (v ++ r
       rest = drop (length v) log
 
       split : v ++ rest ≡ log
-      split = prefix-split v log e
+      split = prefix_split v log e
 
-  due-missing : isPrefix v log ≡ false → against i (v ∷ vs) ends (cut log) ≡ Differs i
+  due_missing : is_prefix v log ≡ false → against i (v ∷ vs) ends (cut log) ≡ Differs i
   unfolding compared
-  due-missing e = ap (against i (v ∷ vs) ends) (cut-next log) ∙ by (next_of log)
+  due_missing e = ap (against i (v ∷ vs) ends) (cut-next log) ∙ by (next_of log)
     where
       other : (n : ℕ) (b : Bool) → same v (take n log) ≡ b → cond b (against (suc i) vs ends (cut (drop n log))) (Differs i) ≡ Differs i
-      other n true q = absurd (true≢false (sym (prefix-append v (drop n log)) ∙ ap (isPrefix v) (ap (λ (w : List ℕ). w ++ drop n log) (same-eq v (take n log) q) ∙ take-append-drop n log) ∙ e))
+      other n true q = absurd (true≢false (sym (prefix_append v (drop n log)) ∙ ap (is_prefix v) (ap (λ (w : List ℕ). w ++ drop n log) (same_eq v (take n log) q) ∙ take-append-drop n log) ∙ e))
       other n false q = refl
 
       by : (x : Next) → against i (v ∷ vs) ends (cut_at x log cut) ≡ Differs i
@@ -83,19 +83,19 @@ module _ (i : ℕ) (v : List ℕ) (field : (rest : List ℕ) → next_of (v ++ r
       by Torn = refl
       by (Record n) = other n (same v (take n log)) refl
 
-pub in_bytes : (i : ℕ) (vs : List (List ℕ)) → Fields vs → (ends : Bool) (log : List ℕ) → compared i vs (cut log).records (ends && none (cut log).rest) ≡ inBytes i vs ends log
-unfolding inBytes
-in_bytes i [] f true log = none-due i log
-in_bytes i [] f false log = torn-due i (cut log).records
-in_bytes i (v ∷ vs) f ends log = by (isPrefix v log) refl (in_bytes (suc i) vs (λ w m. f w (Memᴰ.tail m)) ends (drop (length v) log))
+pub in_bytes_lem : (i : ℕ) (vs : List (List ℕ)) → Fields vs → (ends : Bool) (log : List ℕ) → compared i vs (cut log).records (ends && none (cut log).rest) ≡ in_bytes i vs ends log
+unfolding in_bytes
+in_bytes_lem i [] f true log = none-due i log
+in_bytes_lem i [] f false log = torn-due i (cut log).records
+in_bytes_lem i (v ∷ vs) f ends log = by (is_prefix v log) refl (in_bytes_lem (suc i) vs (λ w m. f w (Memᴰ.tail m)) ends (drop (length v) log))
   where
     field : (rest : List ℕ) → next_of (v ++ rest) ≡ Record (length v)
     field = f v (Memᴰ.head refl)
 
-    by : (b : Bool) → isPrefix v log ≡ b → against (suc i) vs ends (cut (drop (length v) log)) ≡ inBytes (suc i) vs ends (drop (length v) log)
-        → against i (v ∷ vs) ends (cut log) ≡ cond b (inBytes (suc i) vs ends (drop (length v) log)) (Differs i)
-    by true e more = due-there i v field vs ends log e ∙ more
-    by false e more = due-missing i v field vs ends log e
+    by : (b : Bool) → is_prefix v log ≡ b → against (suc i) vs ends (cut (drop (length v) log)) ≡ in_bytes (suc i) vs ends (drop (length v) log)
+        → against i (v ∷ vs) ends (cut log) ≡ cond b (in_bytes (suc i) vs ends (drop (length v) log)) (Differs i)
+    by true e more = due_there i v field vs ends log e ∙ more
+    by false e more = due_missing i v field vs ends log e
 
 -- ---- the index
 
@@ -109,7 +109,7 @@ index_of (Differs n) = n
 
 -- what stands at n
 abbrev At : List (List ℕ) → Bool → List ℕ → ℕ → Type 0
-At vs ends log n = ((n < length vs) × (isPrefix (flatten (take (suc n) vs)) log ≡ false)) ⊎ ((length vs ≡ n) × ((flatten vs ≡ log → ⊥) ⊎ (ends ≡ false)))
+At vs ends log n = ((n < length vs) × (is_prefix (flatten (take (suc n) vs)) log ≡ false)) ⊎ ((length vs ≡ n) × ((flatten vs ≡ log → ⊥) ⊎ (ends ≡ false)))
 
 -- the first disagreement, k behind index i
 abbrev Bytes : ℕ → ℕ → List (List ℕ) → Bool → List ℕ → Type 0
@@ -130,49 +130,49 @@ not-whole true (b ∷ bs) o = refl
 not-whole false log o = refl
 
 -- behind a verdict that is there
-first-cons : (v : List ℕ) (vs : List (List ℕ)) (ends : Bool) (log : List ℕ) (k : ℕ) → isPrefix v log ≡ true → FirstInBytes vs ends (drop (length v) log) k → FirstInBytes (v ∷ vs) ends log (suc k)
+first_cons : (v : List ℕ) (vs : List (List ℕ)) (ends : Bool) (log : List ℕ) (k : ℕ) → is_prefix v log ≡ true → FirstInBytes vs ends (drop (length v) log) k → FirstInBytes (v ∷ vs) ends log (suc k)
 unfolding flatten
-first-cons v vs ends log k e f = record {
-  before = prefix-behind v (flatten (take k vs)) log ∙ and_both _ _ e f.before;
+first_cons v vs ends log k e f = record {
+  before = prefix_behind v (flatten (take k vs)) log ∙ and_both _ _ e f.before;
   differs = on f.differs;
 }
   where
     on : At vs ends (drop (length v) log) k → At (v ∷ vs) ends log (suc k)
-    on (inl d) = inl (omega (arith, d.0), prefix-behind v (flatten (take (suc k) vs)) log ∙ ap (λ (b : Bool). b && isPrefix (flatten (take (suc k) vs)) (drop (length v) log)) e ∙ d.1)
+    on (inl d) = inl (omega (arith, d.0), prefix_behind v (flatten (take (suc k) vs)) log ∙ ap (λ (b : Bool). b && is_prefix (flatten (take (suc k) vs)) (drop (length v) log)) e ∙ d.1)
     on (inr (q, inl d)) = inr (ap suc q, inl (λ z. d (sym (drop-append_seam v (flatten vs)) ∙ ap (drop (length v)) z)))
     on (inr (q, inr d)) = inr (ap suc q, inr d)
 
-pub first-in-bytes : (i n : ℕ) (vs : List (List ℕ)) (ends : Bool) (log : List ℕ) → inBytes i vs ends log ≡ Differs n → Bytes i n vs ends log
-unfolding inBytes isPrefix flatten
-first-in-bytes i n [] ends log e = by (ends && none log) refl e
+pub first_in_bytes_lem : (i n : ℕ) (vs : List (List ℕ)) (ends : Bool) (log : List ℕ) → in_bytes i vs ends log ≡ Differs n → Bytes i n vs ends log
+unfolding in_bytes is_prefix flatten
+first_in_bytes_lem i n [] ends log e = by (ends && none log) refl e
   where
     by : (b : Bool) → (ends && none log) ≡ b → cond b Agree (Differs i) ≡ Differs n → Bytes i n [] ends log
     by true q e = absurd (true≢false (ap agreed e))
     by false q e = (0, (let z = ap index_of e in omega arith), record { before = refl; differs = inr (refl, left_over ends log q) })
-first-in-bytes i n (v ∷ vs) ends log e = by (isPrefix v log) refl e (first-in-bytes (suc i) n vs ends (drop (length v) log))
+first_in_bytes_lem i n (v ∷ vs) ends log e = by (is_prefix v log) refl e (first_in_bytes_lem (suc i) n vs ends (drop (length v) log))
   where
-    by : (b : Bool) → isPrefix v log ≡ b → cond b (inBytes (suc i) vs ends (drop (length v) log)) (Differs i) ≡ Differs n
-        → (inBytes (suc i) vs ends (drop (length v) log) ≡ Differs n → Bytes (suc i) n vs ends (drop (length v) log)) → Bytes i n (v ∷ vs) ends log
-    by true q e f = let r = f e in (suc r.0, (let z = r.1 in omega arith), first-cons v vs ends log r.0 q r.2)
-    by false q e f = (0, (let z = ap index_of e in omega arith), record { before = refl; differs = inl (omega arith, prefix-behind v [] log ∙ ap (λ (b : Bool). b && true) q) })
+    by : (b : Bool) → is_prefix v log ≡ b → cond b (in_bytes (suc i) vs ends (drop (length v) log)) (Differs i) ≡ Differs n
+        → (in_bytes (suc i) vs ends (drop (length v) log) ≡ Differs n → Bytes (suc i) n vs ends (drop (length v) log)) → Bytes i n (v ∷ vs) ends log
+    by true q e f = let r = f e in (suc r.0, (let z = r.1 in omega arith), first_cons v vs ends log r.0 q r.2)
+    by false q e f = (0, (let z = ap index_of e in omega arith), record { before = refl; differs = inl (omega arith, prefix_behind v [] log ∙ ap (λ (b : Bool). b && true) q) })
 
-first_tail : (v : List ℕ) (vs : List (List ℕ)) (ends : Bool) (log : List ℕ) (k : ℕ) → isPrefix v log ≡ true → FirstInBytes (v ∷ vs) ends log (suc k) → FirstInBytes vs ends (drop (length v) log) k
+first_tail : (v : List ℕ) (vs : List (List ℕ)) (ends : Bool) (log : List ℕ) (k : ℕ) → is_prefix v log ≡ true → FirstInBytes (v ∷ vs) ends log (suc k) → FirstInBytes vs ends (drop (length v) log) k
 unfolding flatten
 first_tail v vs ends log k e f = record {
-  before = and_right (isPrefix v log) _ (sym (prefix-behind v (flatten (take k vs)) log) ∙ f.before);
+  before = and_right (is_prefix v log) _ (sym (prefix_behind v (flatten (take k vs)) log) ∙ f.before);
   differs = on f.differs;
 }
   where
     on : At (v ∷ vs) ends log (suc k) → At vs ends (drop (length v) log) k
     on (inl d) = inl (
       omega (arith, d.0),
-      ap (λ (b : Bool). b && isPrefix (flatten (take (suc k) vs)) (drop (length v) log)) (sym e) ∙ sym (prefix-behind v (flatten (take (suc k) vs)) log) ∙ d.1,
+      ap (λ (b : Bool). b && is_prefix (flatten (take (suc k) vs)) (drop (length v) log)) (sym e) ∙ sym (prefix_behind v (flatten (take (suc k) vs)) log) ∙ d.1,
     )
-    on (inr (q, inl d)) = inr (omega (arith, q), inl (λ z. d (ap (λ (x : List ℕ). v ++ x) z ∙ prefix-split v log e)))
+    on (inr (q, inl d)) = inr (omega (arith, q), inl (λ z. d (ap (λ (x : List ℕ). v ++ x) z ∙ prefix_split v log e)))
     on (inr (q, inr d)) = inr (omega (arith, q), inr d)
 
-pub bytes-first : (i k : ℕ) (vs : List (List ℕ)) (ends : Bool) (log : List ℕ) → FirstInBytes vs ends log k → inBytes i vs ends log ≡ Differs (i + k)
-unfolding inBytes flatten
+pub bytes-first : (i k : ℕ) (vs : List (List ℕ)) (ends : Bool) (log : List ℕ) → FirstInBytes vs ends log k → in_bytes i vs ends log ≡ Differs (i + k)
+unfolding in_bytes flatten
 bytes-first i zero [] ends log f = by f.differs
   where
     by : At [] ends log 0 → cond (ends && none log) Agree (Differs i) ≡ Differs (i + 0)
@@ -183,13 +183,13 @@ bytes-first i (suc k) [] ends log f = by f.differs
     by : At [] ends log (suc k) → cond (ends && none log) Agree (Differs i) ≡ Differs (i + suc k)
     by (inl d) = absurd (omega (arith, d.0))
     by (inr d) = absurd (omega (arith, d.0))
-bytes-first i zero (v ∷ vs) ends log f = ap (λ (b : Bool). cond b (inBytes (suc i) vs ends (drop (length v) log)) (Differs i)) (not_there f.differs) ∙ ap Differs (sym (add-zero i))
+bytes-first i zero (v ∷ vs) ends log f = ap (λ (b : Bool). cond b (in_bytes (suc i) vs ends (drop (length v) log)) (Differs i)) (not_there f.differs) ∙ ap Differs (sym (add-zero i))
   where
-    not_there : At (v ∷ vs) ends log 0 → isPrefix v log ≡ false
-    not_there (inl d) = sym (ap (λ (x : List ℕ). isPrefix x log) (append-nil v)) ∙ d.1
+    not_there : At (v ∷ vs) ends log 0 → is_prefix v log ≡ false
+    not_there (inl d) = sym (ap (λ (x : List ℕ). is_prefix x log) (append-nil v)) ∙ d.1
     not_there (inr d) = absurd (omega (arith, d.0))
 bytes-first i (suc k) (v ∷ vs) ends log f =
-    let there : isPrefix v log ≡ true = and_left (isPrefix v log) _ (sym (prefix-behind v (flatten (take k vs)) log) ∙ f.before) in
-    ap (λ (b : Bool). cond b (inBytes (suc i) vs ends (drop (length v) log)) (Differs i)) there
+    let there : is_prefix v log ≡ true = and_left (is_prefix v log) _ (sym (prefix_behind v (flatten (take k vs)) log) ∙ f.before) in
+    ap (λ (b : Bool). cond b (in_bytes (suc i) vs ends (drop (length v) log)) (Differs i)) there
     ∙ bytes-first (suc i) k vs ends (drop (length v) log) (first_tail v vs ends log k there f)
     ∙ ap Differs (omega arith)

@@ -8,7 +8,7 @@ use Rattle.rules.specs.Struck.{each}
 use Rattle.ledger.specs.declared.Ledger.{Ledger}
 use Rattle.replay.specs.declared.Front.{Front}
 use Rattle.replay.specs.declared.Front.TheVariants.{End, Torn, Full, Judged}
-use Rattle.replay.specs.Front.{answerBytes}
+use Rattle.replay.specs.Front.{answer_bytes}
 use Rattle.replay.specs.Replay.{cut}
 use Rattle.replay.specs.Struck.{leaves}
 use Rattle.log_check.specs.declared.Checked.{Checked}
@@ -16,15 +16,15 @@ use Rattle.log_check.specs.declared.Checked.TheVariants.{Agree, Differs}
 
 -- the verdicts that are due: those of the trace's records, each on the ledger that the one before it left
 abbrev pub due : Ledger → List ℕ → List (List ℕ)
-due l trace = each leaves answerBytes l (cut trace).records
+due l trace = each leaves answer_bytes l (cut trace).records
 
 -- the verdicts that the log has: it is cut into records as a trace is
 abbrev pub logged : List ℕ → List (List ℕ)
 logged log = (cut log).records
 
 -- neither side ends in a torn record
-abbrev pub bothWhole : List ℕ → List ℕ → Bool
-bothWhole trace log = none (cut trace).rest && none (cut log).rest
+abbrev pub both_whole : List ℕ → List ℕ → Bool
+both_whole trace log = none (cut trace).rest && none (cut log).rest
 
 -- the verdicts due beside those of the log, from index i on: one that is too many, one that is missing, one that differs
 unfoldable pub compared : ℕ → List (List ℕ) → List (List ℕ) → Bool → Checked
@@ -33,23 +33,23 @@ compared i [] (w ∷ ws) whole = Differs i
 compared i (v ∷ vs) [] whole = Differs i
 compared i (v ∷ vs) (w ∷ ws) whole = cond (same v w) (compared (suc i) vs ws whole) (Differs i)
 
-abbrev pub checkedFrom : ℕ → Ledger → List ℕ → List ℕ → Checked
-checkedFrom i l trace log = compared i (due l trace) (logged log) (bothWhole trace log)
+abbrev pub checked_from : ℕ → Ledger → List ℕ → List ℕ → Checked
+checked_from i l trace log = compared i (due l trace) (logged log) (both_whole trace log)
 
-unfoldable pub checkedOf : Ledger → List ℕ → List ℕ → Checked
-checkedOf l trace log = checkedFrom 0 l trace log
+unfoldable pub checked_of : Ledger → List ℕ → List ℕ → Checked
+checked_of l trace log = checked_from 0 l trace log
 
 -- As the code asks
 
 -- the bytes start with these
-unfoldable pub isPrefix : List ℕ → List ℕ → Bool
-isPrefix [] bs = true
-isPrefix (v ∷ vs) [] = false
-isPrefix (v ∷ vs) (b ∷ bs) = eqb v b && isPrefix vs bs
+unfoldable pub is_prefix : List ℕ → List ℕ → Bool
+is_prefix [] bs = true
+is_prefix (v ∷ vs) [] = false
+is_prefix (v ∷ vs) (b ∷ bs) = eqb v b && is_prefix vs bs
 
 -- no record is judged any more and so many bytes of the log are left; with room for the longest verdict the front is never full, and a judged one ends nothing
-abbrev pub endedAt : Front → ℕ → ℕ → Checked
-endedAt End left i = cond (eqb left 0) Agree (Differs i)
-endedAt Torn left i = Differs i
-endedAt Full left i = Differs i
-endedAt (Judged n k) left i = Differs i
+abbrev pub ended_at : Front → ℕ → ℕ → Checked
+ended_at End left i = cond (eqb left 0) Agree (Differs i)
+ended_at Torn left i = Differs i
+ended_at Full left i = Differs i
+ended_at (Judged n k) left i = Differs i

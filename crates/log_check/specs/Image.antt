@@ -10,21 +10,21 @@ use Rattle.log_check.specs.declared.Checked.{Checked}
 use Rattle.log_check.specs.declared.Checked.TheVariants.{Agree, Differs}
 use Rattle.log_check.specs.declared.CheckedFrom.{CheckedFrom}
 use Rattle.log_check.specs.declared.CheckedFrom.TheVariants.{Loaded, Refused}
-use Rattle.log_check.specs.Check.{checkedOf}
+use Rattle.log_check.specs.Check.{checked_of}
 
-abbrev pub answeredBy : Reading → Ledger → List ℕ → List ℕ → CheckedFrom
-answeredBy Read l trace log = Loaded (checkedOf l trace log)
-answeredBy Unsound l trace log = Refused (read_code Unsound)
-answeredBy Malformed l trace log = Refused (read_code Malformed)
+abbrev pub answered_by : Reading → Ledger → List ℕ → List ℕ → CheckedFrom
+answered_by Read l trace log = Loaded (checked_of l trace log)
+answered_by Unsound l trace log = Refused (read_code Unsound)
+answered_by Malformed l trace log = Refused (read_code Malformed)
 
-abbrev pub answeredFrom : ImageRead → List ℕ → List ℕ → CheckedFrom
-answeredFrom r trace log = answeredBy r.reading r.ledger trace log
+abbrev pub answered_from : ImageRead → List ℕ → List ℕ → CheckedFrom
+answered_from r trace log = answered_by r.reading r.ledger trace log
 
 -- a number for each answer: 0 where all agree, the image's own where it is refused, 4 where they differ (the paper has none for these)
-abbrev pub checkedCode : Checked → ℕ
-checkedCode Agree = 0
-checkedCode (Differs i) = 4
+abbrev pub checked_code : Checked → ℕ
+checked_code Agree = 0
+checked_code (Differs i) = 4
 
-abbrev pub answerCode : CheckedFrom → ℕ
-answerCode (Loaded c) = checkedCode c
-answerCode (Refused n) = n
+abbrev pub answer_code : CheckedFrom → ℕ
+answer_code (Loaded c) = checked_code c
+answer_code (Refused n) = n

@@ -2,8 +2,8 @@
 // longest one.
 ghost use Rattle.std.specs.Prelude.{◌≡◌};
 ghost use Rattle.image.specs.Reading.{read_of};
-ghost use Rattle.log_check.specs.Check.{isPrefix, endedAt, checkedOf};
-ghost use Rattle.log_check.specs.Image.{answeredFrom};
+ghost use Rattle.log_check.specs.Check.{is_prefix, ended_at, checked_of};
+ghost use Rattle.log_check.specs.Image.{answered_from};
 
 use image::Reading;
 use ledger::Ledger;
@@ -27,7 +27,7 @@ pub enum CheckedFrom {
 }
 
 fn starts_with(bytes: &[u8], front: &[u8]) -> bool
-    ensures { result ≡ isPrefix front.now bytes.now }
+    ensures { result ≡ is_prefix front.now bytes.now }
 {
     if bytes.len() < front.len() {
         return false;
@@ -44,7 +44,7 @@ fn starts_with(bytes: &[u8], front: &[u8]) -> bool
 
 // What is found where no record is judged any more, with so many bytes of the log left.
 fn ended(front: Front, left: usize, index: usize) -> Checked
-    ensures { result ≡ endedAt front left index }
+    ensures { result ≡ ended_at front left index }
 {
     match front {
         Front::End => {
@@ -62,7 +62,7 @@ fn ended(front: Front, left: usize, index: usize) -> Checked
 // Says that the log agrees with the verdicts of the trace's records, each on the ledger that the one before it left, or the
 // index of the first disagreement. Each verdict takes the room of the one before.
 pub fn check_log(ledger: Ledger, trace: &[u8], log: &[u8]) -> Checked
-    ensures { result ≡ checkedOf ledger trace.now log.now }
+    ensures { result ≡ checked_of ledger trace.now log.now }
 {
     let mut ledger = ledger;
     let mut verdict = [0; LONGEST_VERDICT];
@@ -91,7 +91,7 @@ pub fn check_log(ledger: Ledger, trace: &[u8], log: &[u8]) -> Checked
 
 // The same from the ledger of an image. A refused image gives its number.
 pub fn check_log_from(start: &[u8], trace: &[u8], log: &[u8]) -> CheckedFrom
-    ensures { result ≡ answeredFrom (read_of start.now) trace.now log.now }
+    ensures { result ≡ answered_from (read_of start.now) trace.now log.now }
 {
     let read = image::read_image(start);
     let reading = read.reading;

@@ -10,24 +10,24 @@ use Rattle.log_check.specs.declared.Checked.{Checked}
 use Rattle.log_check.specs.declared.Checked.TheVariants.{Agree, Differs}
 use Rattle.log_check.specs.declared.CheckedFrom.{CheckedFrom}
 use Rattle.log_check.specs.declared.CheckedFrom.TheVariants.{Loaded, Refused}
-use Rattle.log_check.specs.Check.{checkedOf}
-use Rattle.log_check.specs.Image.{answeredFrom, answerCode}
+use Rattle.log_check.specs.Check.{checked_of}
+use Rattle.log_check.specs.Image.{answered_from, answer_code}
 use Rattle.exports.specs.Names.{Call}
 
 -- "with a starting image or none for fresh": an image of no bytes is none
-abbrev pub foundOf : List ℕ → List ℕ → List ℕ → CheckedFrom
-foundOf image trace log = cond (none image) (Loaded (checkedOf (lay fresh) trace log)) (answeredFrom (read_of image) trace log)
+abbrev pub found_of : List ℕ → List ℕ → List ℕ → CheckedFrom
+found_of image trace log = cond (none image) (Loaded (checked_of (lay fresh) trace log)) (answered_from (read_of image) trace log)
 
 -- where they differ the index stands in the first element, and the elements beyond stay
 abbrev pub index_at : Checked → List ℕ → List ℕ
 index_at Agree at = at
 index_at (Differs i) at = over (i ∷ []) at
 
-abbrev pub leftBy : CheckedFrom → List ℕ → List ℕ
-leftBy (Loaded c) at = index_at c at
-leftBy (Refused n) at = at
+abbrev pub left_by : CheckedFrom → List ℕ → List ℕ
+left_by (Loaded c) at = index_at c at
+left_by (Refused n) at = at
 
 -- 3 where no element is lent for the index; else 0 where all agree, 1 or 2 for an image that is refused, 4 where they differ
-unfoldable pub checkLog : List ℕ → List ℕ → List ℕ → List ℕ → Call
-checkLog image trace log at =
-    cond (none at) (record { answer = 3; left = at }) (record { answer = answerCode (foundOf image trace log); left = leftBy (foundOf image trace log) at })
+unfoldable pub check_log : List ℕ → List ℕ → List ℕ → List ℕ → Call
+check_log image trace log at =
+    cond (none at) (record { answer = 3; left = at }) (record { answer = answer_code (found_of image trace log); left = left_by (found_of image trace log) at })

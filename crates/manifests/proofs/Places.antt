@@ -16,17 +16,17 @@ use mir.Val.{Val}
 use denote.Laws.{Is}
 use denote.Shadow.{shadow}
 use denote.Array.{each}
-use Rattle.rules.specs.Limits.{limits, manifestLimit}
+use Rattle.rules.specs.Limits.{limits, manifest_limit}
 use Rattle.rules.specs.Lists.{◌∈◌, conj, all}
-use Rattle.rules.specs.State.{Manifest, firstManifest}
-use Rattle.rules.specs.Typed.{isPadded}
+use Rattle.rules.specs.State.{Manifest, first_manifest}
+use Rattle.rules.specs.Typed.{is_padded}
 use Rattle.rules.proofs.Lists.{and_left, and_right, and_both, conj-true, true-conj}
 use Rattle.rules.proofs.Typed.{padded-room}
 use Rattle.arrays.specs.Arrays.{pad}
 use Rattle.arrays.proofs.Lists.{pad-laid, laid-pad, take-pad, length-pad, pad-none, map-append, same_at}
 use Rattle.manifests.specs.declared.KeptManifest.{KeptManifest}
 use Rattle.manifests.specs.declared.Manifests.{Manifests}
-use Rattle.manifests.specs.Manifests.{layManifest, manifestOf, noManifest, pastEnd, manifestsOf, layManifests, currentOf, olderOf, isNoManifest, isListLaid, isLaid}
+use Rattle.manifests.specs.Manifests.{lay_manifest, manifest_of, no_manifest, past_end, manifests_of, lay_manifests, current_of, older_of, is_no_manifest, is_list_laid, is_laid}
 use Rattle.manifests.specs.contracts.KeptManifest as kept
 use Rattle.manifests.specs.contracts.Manifests as manifests
 
@@ -51,31 +51,31 @@ module _ {A : Type 0} (p : A → Bool) where
   all_drop (suc n) [] e = refl
   all_drop (suc n) (x ∷ xs) e = all_drop n xs (and_right (p x) (all p xs) e)
 
-  all-also : (q : A → Bool) (l : List A) → all p l ≡ true → all q l ≡ true → all (λ x. p x && q x) l ≡ true
+  all_also : (q : A → Bool) (l : List A) → all p l ≡ true → all q l ≡ true → all (λ x. p x && q x) l ≡ true
   unfolding all
-  all-also q [] e f = refl
-  all-also q (x ∷ xs) e f =
+  all_also q [] e f = refl
+  all_also q (x ∷ xs) e f =
       and_both (p x && q x) _ (and_both (p x) (q x) (and_left (p x) (all p xs) e) (and_left (q x) (all q xs) f))
-      (all-also q xs (and_right (p x) (all p xs) e) (and_right (q x) (all q xs) f))
+      (all_also q xs (and_right (p x) (all p xs) e) (and_right (q x) (all q xs) f))
 
 -- What the type says: how many places there are, and each place's room for names
 
 -- a place's array of names is whole
-abbrev pub hasRoom : KeptManifest → Bool
-hasRoom m = eqb (length m.names) limits.names
+abbrev pub has_room : KeptManifest → Bool
+has_room m = eqb (length m.names) limits.names
 
 field_room : (ms : List KeptManifest) (us : List Val)
-    → shadow (each (kept.the_field).row.Denot (kept.the_field).row.own_val (map (kept.the_field).into ms) us) → all hasRoom ms ≡ true
+    → shadow (each (kept.the_field).row.Denot (kept.the_field).row.own_val (map (kept.the_field).into ms) us) → all has_room ms ≡ true
 unfolding all
 field_room [] us is = refl
 field_room (m ∷ ms) [] is = absurd is
 field_room (m ∷ ms) (u ∷ us) is =
-    and_both (hasRoom m) _ (eq-eqb _ _ (sym (length-map m.names (λ (v : ℕ). v)) ∙ is.0.1.1.1.1.1.1.0.1.0.1)) (field_room ms us is.1)
+    and_both (has_room m) _ (eq-eqb _ _ (sym (length-map m.names (λ (v : ℕ). v)) ∙ is.0.1.1.1.1.1.1.0.1.0.1)) (field_room ms us is.1)
 
 -- the lengths of a value's arrays
 pub record Long (ms : Manifests) : Type 0 where
-  pub items : length ms.items ≡ manifestLimit limits
-  pub names : all hasRoom ms.items ≡ true
+  pub items : length ms.items ≡ manifest_limit limits
+  pub names : all has_room ms.items ≡ true
 
 pub long : (ms : Manifests) (vs : List Val) → Is manifests.the_row ms vs → Long ms
 long ms vs is = record {
@@ -83,28 +83,28 @@ long ms vs is = record {
   names = field_room ms.items _ is.1.1.1.0.1.1;
 }
 
-pub items-long : (ms : Manifests) (vs : List Val) → Is manifests.the_row ms vs → length ms.items ≡ manifestLimit limits
-items-long ms vs is = (long ms vs is).items
+pub items_long : (ms : Manifests) (vs : List Val) → Is manifests.the_row ms vs → length ms.items ≡ manifest_limit limits
+items_long ms vs is = (long ms vs is).items
 
-pub names-long : {ms : Manifests} → Long ms → (i : ℕ) → i < manifestLimit limits → length (get_or ms.items i pastEnd).names ≡ limits.names
-names-long {ms} l i h = eqb-true _ _ (all-at hasRoom ms.items l.names i pastEnd (omega (arith, l.items)))
+pub names_long : {ms : Manifests} → Long ms → (i : ℕ) → i < manifest_limit limits → length (get_or ms.items i past_end).names ≡ limits.names
+names_long {ms} l i h = eqb-true _ _ (all-at has_room ms.items l.names i past_end (omega (arith, l.items)))
 
 -- what a place says is no longer than its room
-names-short : (l : List KeptManifest) → all hasRoom l ≡ true → (m : Manifest) → m ∈ map manifestOf l → length m.names ≤ limits.names
+names-short : (l : List KeptManifest) → all has_room l ≡ true → (m : Manifest) → m ∈ map manifest_of l → length m.names ≤ limits.names
 unfolding all
 names-short [] r m k = absurd (Memᴰ.not-nil k)
 names-short (x ∷ xs) r m k =
     ⊎_elim
-    (λ e. omega (arith, ap (λ (y : Manifest). length y.names) e, length-take x.count x.names, eqb-true (length x.names) limits.names (and_left (hasRoom x) _ r)))
-    (names-short xs (and_right (hasRoom x) _ r) m) (Memᴰ.cases_cons k)
+    (λ e. omega (arith, ap (λ (y : Manifest). length y.names) e, length-take x.count x.names, eqb-true (length x.names) limits.names (and_left (has_room x) _ r)))
+    (names-short xs (and_right (has_room x) _ r) m) (Memᴰ.cases_cons k)
 
-pub kept-short : {ms : Manifests} → Long ms → (m : Manifest) → m ∈ manifestsOf ms → length m.names ≤ limits.names
-kept-short {ms} l = names-short (take ms.count ms.items) (all_take hasRoom ms.count ms.items l.names)
+pub kept-short : {ms : Manifests} → Long ms → (m : Manifest) → m ∈ manifests_of ms → length m.names ≤ limits.names
+kept-short {ms} l = names-short (take ms.count ms.items) (all_take has_room ms.count ms.items l.names)
 
 -- A place that is laid out is the layout of its manifest
 
-pub formed : (m : KeptManifest) → hasRoom m ≡ true → isListLaid m ≡ true → layManifest (manifestOf m) ≡ m
-unfolding isPadded
+pub formed : (m : KeptManifest) → has_room m ≡ true → is_list_laid m ≡ true → lay_manifest (manifest_of m) ≡ m
+unfolding is_padded
 formed m r e =
     let whole : length m.names ≡ limits.names = eqb-true _ _ r in
     let fits = padded-room m.count m.names e in
@@ -117,129 +117,129 @@ formed m r e =
       names = (ap (λ (k : ℕ). pad k 0 (take m.count m.names)) (sym whole) ∙ same) i;
     }
 
-lists-formed : (l : List KeptManifest) → all hasRoom l ≡ true → all isListLaid l ≡ true → map layManifest (map manifestOf l) ≡ l
+lists-formed : (l : List KeptManifest) → all has_room l ≡ true → all is_list_laid l ≡ true → map lay_manifest (map manifest_of l) ≡ l
 unfolding all
 lists-formed [] r e = refl
 lists-formed (m ∷ ms) r e =
-    ap₂ ◌∷◌ (formed m (and_left (hasRoom m) _ r) (and_left (isListLaid m) _ e))
-    (lists-formed ms (and_right (hasRoom m) _ r) (and_right (isListLaid m) _ e))
+    ap₂ ◌∷◌ (formed m (and_left (has_room m) _ r) (and_left (is_list_laid m) _ e))
+    (lists-formed ms (and_right (has_room m) _ r) (and_right (is_list_laid m) _ e))
 
 -- a place that is all zero is the layout of manifest 0 with an empty list
-pub first-laid : layManifest firstManifest ≡ noManifest
+pub first-laid : lay_manifest first_manifest ≡ no_manifest
 first-laid = λ i. record { number = 0; writer = 0; compactor = 0; count = 0; names = pad-none limits.names 0 i }
 
-no-manifest : (m : KeptManifest) → (isNoManifest m && hasRoom m) ≡ true → m ≡ noManifest
-unfolding isNoManifest
-no-manifest m e =
-    let f = conj-true _ (and_left (isNoManifest m) (hasRoom m) e) in
-    let same = formed m (and_right (isNoManifest m) (hasRoom m) e) f.1.1.1.1.0 in
+no_manifest_lem : (m : KeptManifest) → (is_no_manifest m && has_room m) ≡ true → m ≡ no_manifest
+unfolding is_no_manifest
+no_manifest_lem m e =
+    let f = conj-true _ (and_left (is_no_manifest m) (has_room m) e) in
+    let same = formed m (and_right (is_no_manifest m) (has_room m) e) f.1.1.1.1.0 in
     let none : m.count ≡ 0 = eqb-true m.count 0 f.1.1.1.0 in
-    let empty : manifestOf m ≡ firstManifest = λ i. record {
+    let empty : manifest_of m ≡ first_manifest = λ i. record {
       number = eqb-true m.number 0 f.0 i;
-      writerEpoch = eqb-true m.writer 0 f.1.0 i;
-      compactorEpoch = eqb-true m.compactor 0 f.1.1.0 i;
+      writer_epoch = eqb-true m.writer 0 f.1.0 i;
+      compactor_epoch = eqb-true m.compactor 0 f.1.1.0 i;
       names = take (none i) m.names;
     } in
-    sym same ∙ ap layManifest empty ∙ first-laid
+    sym same ∙ ap lay_manifest empty ∙ first-laid
 
 -- Manifests that are laid out
 
-pub some : (ms : Manifests) → isLaid ms ≡ true → 1 ≤ ms.count
-unfolding isLaid
+pub some : (ms : Manifests) → is_laid ms ≡ true → 1 ≤ ms.count
+unfolding is_laid
 some ms e = leb-true 1 ms.count (conj-true _ e).0
 
-pub few : (ms : Manifests) → isLaid ms ≡ true → ms.count ≤ manifestLimit limits
-unfolding isLaid
-few ms e = leb-true ms.count (manifestLimit limits) (conj-true _ e).1.0
+pub few : (ms : Manifests) → is_laid ms ≡ true → ms.count ≤ manifest_limit limits
+unfolding is_laid
+few ms e = leb-true ms.count (manifest_limit limits) (conj-true _ e).1.0
 
-module _ (ms : Manifests) (l : Long ms) (e : isLaid ms ≡ true) where
+module _ (ms : Manifests) (l : Long ms) (e : is_laid ms ≡ true) where
   room : ms.count ≤ length ms.items
   room = omega (arith, few ms e, l.items)
 
-  pub padded : all isListLaid (take ms.count ms.items) ≡ true
-  unfolding isLaid
+  pub padded : all is_list_laid (take ms.count ms.items) ≡ true
+  unfolding is_laid
   padded = (conj-true _ e).1.1.0
 
   -- a kept manifest names no more than it has room for
-  pub names-few : (i : ℕ) → i < ms.count → (get_or ms.items i pastEnd).count ≤ limits.names
+  pub names-few : (i : ℕ) → i < ms.count → (get_or ms.items i past_end).count ≤ limits.names
   names-few i h =
-      let here = all-at isListLaid (take ms.count ms.items) padded i pastEnd (rw (length-take-le ms.count ms.items room) h) in
-      let m = get_or ms.items i pastEnd in
-      omega (arith, padded-room m.count m.names (rw (get_or-take ms.count ms.items i pastEnd h) at here), names-long l i (omega (arith, few ms e)))
+      let here = all-at is_list_laid (take ms.count ms.items) padded i past_end (rw (length-take-le ms.count ms.items room) h) in
+      let m = get_or ms.items i past_end in
+      omega (arith, padded-room m.count m.names (rw (get_or-take ms.count ms.items i past_end h) at here), names_long l i (omega (arith, few ms e)))
 
   -- the first of the kept manifests, laid out anew, are their places
-  pub kept_same : (n : ℕ) → n ≤ ms.count → map layManifest (map manifestOf (take n ms.items)) ≡ take n ms.items
+  pub kept_same : (n : ℕ) → n ≤ ms.count → map lay_manifest (map manifest_of (take n ms.items)) ≡ take n ms.items
   kept_same n h =
-      lists-formed (take n ms.items) (all_take hasRoom n ms.items l.names)
-      (rw (take-take n ms.count ms.items h) at (all_take isListLaid n (take ms.count ms.items) padded))
+      lists-formed (take n ms.items) (all_take has_room n ms.items l.names)
+      (rw (take-take n ms.count ms.items h) at (all_take is_list_laid n (take ms.count ms.items) padded))
 
   -- each kept manifest is laid out
-  pub kept-formed : (i : ℕ) → i < ms.count → layManifest (manifestOf (get_or ms.items i pastEnd)) ≡ get_or ms.items i pastEnd
+  pub kept-formed : (i : ℕ) → i < ms.count → lay_manifest (manifest_of (get_or ms.items i past_end)) ≡ get_or ms.items i past_end
   kept-formed i h =
-      let at = get_or-take ms.count ms.items i pastEnd h in
-      ap (λ (m : KeptManifest). layManifest (manifestOf m)) (sym at)
-      ∙ same_at manifestOf layManifest (take ms.count ms.items) (kept_same ms.count (omega arith)) i pastEnd (rw (length-take-le ms.count ms.items room) h) ∙ at
+      let at = get_or-take ms.count ms.items i past_end h in
+      ap (λ (m : KeptManifest). lay_manifest (manifest_of m)) (sym at)
+      ∙ same_at manifest_of lay_manifest (take ms.count ms.items) (kept_same ms.count (omega arith)) i past_end (rw (length-take-le ms.count ms.items room) h) ∙ at
 
   -- and so is the current one
-  pub current-formed : layManifest (manifestOf (currentOf ms)) ≡ currentOf ms
+  pub current-formed : lay_manifest (manifest_of (current_of ms)) ≡ current_of ms
   current-formed = kept-formed (ms.count - 1) (omega (arith, some ms e))
 
-  pub laid_out : layManifests (manifestsOf ms) ≡ ms
-  unfolding isLaid
+  pub laid_out : lay_manifests (manifests_of ms) ≡ ms
+  unfolding is_laid
   laid_out =
-      let rest = all-also isNoManifest hasRoom (drop ms.count ms.items) (conj-true _ e).1.1.1.0 (all_drop hasRoom ms.count ms.items l.names) in
-      let same = pad-laid noManifest (λ m. isNoManifest m && hasRoom m) no-manifest ms.count ms.items room rest in
+      let rest = all_also is_no_manifest has_room (drop ms.count ms.items) (conj-true _ e).1.1.1.0 (all_drop has_room ms.count ms.items l.names) in
+      let same = pad-laid no_manifest (λ m. is_no_manifest m && has_room m) no_manifest_lem ms.count ms.items room rest in
       λ i. record {
-        count = (length-map (take ms.count ms.items) manifestOf ∙ length-take-le ms.count ms.items room) i;
-        items = (ap (pad (manifestLimit limits) noManifest) (kept_same ms.count (omega arith)) ∙ ap (λ (k : ℕ). pad k noManifest (take ms.count ms.items)) (sym l.items) ∙ same) i;
+        count = (length-map (take ms.count ms.items) manifest_of ∙ length-take-le ms.count ms.items room) i;
+        items = (ap (pad (manifest_limit limits) no_manifest) (kept_same ms.count (omega arith)) ∙ ap (λ (k : ℕ). pad k no_manifest (take ms.count ms.items)) (sym l.items) ∙ same) i;
       }
 
   -- the last of them is the current one
-  pub split : manifestsOf ms ≡ olderOf ms ++ (manifestOf (currentOf ms) ∷ [])
+  pub split : manifests_of ms ≡ older_of ms ++ (manifest_of (current_of ms) ∷ [])
   split =
       let last = ms.count - 1 in
       let more : ms.count ≡ suc last = omega (arith, some ms e) in
-      ap (λ (n : ℕ). map manifestOf (take n ms.items)) more
-      ∙ ap (map manifestOf) (take-suc ms.items last pastEnd (omega (arith, some ms e, few ms e, l.items)))
-      ∙ map-append manifestOf (take last ms.items) (currentOf ms ∷ [])
+      ap (λ (n : ℕ). map manifest_of (take n ms.items)) more
+      ∙ ap (map manifest_of) (take-suc ms.items last past_end (omega (arith, some ms e, few ms e, l.items)))
+      ∙ map-append manifest_of (take last ms.items) (current_of ms ∷ [])
 
 -- A layout is laid out, and says its manifests
 
-pub of-lay : (m : Manifest) → manifestOf (layManifest m) ≡ m
-of-lay m = λ i. record { number = m.number; writerEpoch = m.writerEpoch; compactorEpoch = m.compactorEpoch; names = take-pad limits.names 0 m.names i }
+pub of_lay : (m : Manifest) → manifest_of (lay_manifest m) ≡ m
+of_lay m = λ i. record { number = m.number; writer_epoch = m.writer_epoch; compactor_epoch = m.compactor_epoch; names = take-pad limits.names 0 m.names i }
 
-lay-padded : (m : Manifest) → length m.names ≤ limits.names → isListLaid (layManifest m) ≡ true
-unfolding isPadded
+lay-padded : (m : Manifest) → length m.names ≤ limits.names → is_list_laid (lay_manifest m) ≡ true
+unfolding is_padded
 lay-padded m h =
     let fits : length m.names ≤ length (pad limits.names 0 m.names) = rw (length-pad limits.names 0 m.names h) h in
     and_both (leb (length m.names) (length (pad limits.names 0 m.names))) _ (le-leb _ _ fits) (laid-pad (eqb 0) limits.names 0 m.names refl)
 
-lists-padded : (ms : List Manifest) → ((m : Manifest) → m ∈ ms → length m.names ≤ limits.names) → all isListLaid (map layManifest ms) ≡ true
+lists-padded : (ms : List Manifest) → ((m : Manifest) → m ∈ ms → length m.names ≤ limits.names) → all is_list_laid (map lay_manifest ms) ≡ true
 unfolding all
 lists-padded [] f = refl
 lists-padded (m ∷ ms) f =
-    and_both (isListLaid (layManifest m)) _ (lay-padded m (f m (Memᴰ.head refl))) (lists-padded ms (λ x k. f x (Memᴰ.tail k)))
+    and_both (is_list_laid (lay_manifest m)) _ (lay-padded m (f m (Memᴰ.head refl))) (lists-padded ms (λ x k. f x (Memᴰ.tail k)))
 
-no-manifest-zero : isNoManifest noManifest ≡ true
-unfolding isNoManifest isPadded conj all
-no-manifest-zero = refl
+no_manifest-zero : is_no_manifest no_manifest ≡ true
+unfolding is_no_manifest is_padded conj all
+no_manifest-zero = refl
 
-pub lay-laid : (ms : List Manifest) → 1 ≤ length ms → length ms ≤ manifestLimit limits
-    → ((m : Manifest) → m ∈ ms → length m.names ≤ limits.names) → isLaid (layManifests ms) ≡ true
-unfolding isLaid
+pub lay-laid : (ms : List Manifest) → 1 ≤ length ms → length ms ≤ manifest_limit limits
+    → ((m : Manifest) → m ∈ ms → length m.names ≤ limits.names) → is_laid (lay_manifests ms) ≡ true
+unfolding is_laid
 lay-laid ms h k f =
-    let same : length ms ≡ length (map layManifest ms) = sym (length-map ms layManifest) in
-    let places = pad (manifestLimit limits) noManifest (map layManifest ms) in
-    let laid : all isListLaid (take (length ms) places) ≡ true =
-    ap (λ (n : ℕ). all isListLaid (take n places)) same ∙ ap (all isListLaid) (take-pad (manifestLimit limits) noManifest (map layManifest ms)) ∙ lists-padded ms f in
-    let rest : all isNoManifest (drop (length ms) places) ≡ true =
-    ap (λ (n : ℕ). all isNoManifest (drop n places)) same ∙ laid-pad isNoManifest (manifestLimit limits) noManifest (map layManifest ms) no-manifest-zero in
-    true-conj _ (le-leb 1 (length ms) h, (le-leb (length ms) (manifestLimit limits) k, (laid, (rest, tt))))
+    let same : length ms ≡ length (map lay_manifest ms) = sym (length-map ms lay_manifest) in
+    let places = pad (manifest_limit limits) no_manifest (map lay_manifest ms) in
+    let laid : all is_list_laid (take (length ms) places) ≡ true =
+    ap (λ (n : ℕ). all is_list_laid (take n places)) same ∙ ap (all is_list_laid) (take-pad (manifest_limit limits) no_manifest (map lay_manifest ms)) ∙ lists-padded ms f in
+    let rest : all is_no_manifest (drop (length ms) places) ≡ true =
+    ap (λ (n : ℕ). all is_no_manifest (drop n places)) same ∙ laid-pad is_no_manifest (manifest_limit limits) no_manifest (map lay_manifest ms) no_manifest-zero in
+    true-conj _ (le-leb 1 (length ms) h, (le-leb (length ms) (manifest_limit limits) k, (laid, (rest, tt))))
 
 -- places that are all zero, and those of manifest 0 alone
-pub zero-items : {z : KeptManifest} → z ≡ layManifest firstManifest → replicate (manifestLimit limits) z ≡ replicate (manifestLimit limits) noManifest
-zero-items e = ap (replicate (manifestLimit limits)) (e ∙ first-laid)
+pub zero_items : {z : KeptManifest} → z ≡ lay_manifest first_manifest → replicate (manifest_limit limits) z ≡ replicate (manifest_limit limits) no_manifest
+zero_items e = ap (replicate (manifest_limit limits)) (e ∙ first-laid)
 
-pub first-items : {z : KeptManifest} → z ≡ layManifest firstManifest → replicate (manifestLimit limits) z ≡ (layManifests (firstManifest ∷ [])).items
+pub first_items : {z : KeptManifest} → z ≡ lay_manifest first_manifest → replicate (manifest_limit limits) z ≡ (lay_manifests (first_manifest ∷ [])).items
 unfolding pad
-first-items e = zero-items e ∙ (λ i. sym first-laid i ∷ replicate limits.holds noManifest)
+first_items e = zero_items e ∙ (λ i. sym first-laid i ∷ replicate limits.holds no_manifest)

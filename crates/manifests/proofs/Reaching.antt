@@ -11,26 +11,26 @@ use borrow.Author.Tests.{eq-eqb, ne_eqb, lt-ltb, le-ltb, le-leb, leb-true, eqb-t
 use lib.Dec.{leb, ltb, eqb}
 use lib.ListN.{length, take, drop, get_or, set, length-map, length-take, get_or-eq_default}
 use lib.Seq.{slice, slice_empty, length-slice, length-take-le, split_at, take-nil, take-suc, take-add, take-take, drop-drop, drop_at, get_or-take, get_or-drop, get_or-set_same, set-get_or, set-set}
-use Rattle.rules.specs.Limits.{limits, manifestLimit}
-use Rattle.rules.specs.Lists.{any, all, has, risingAbove}
+use Rattle.rules.specs.Limits.{limits, manifest_limit}
+use Rattle.rules.specs.Lists.{any, all, has, rising_above}
 use Rattle.rules.specs.State.{Manifest}
-use Rattle.rules.proofs.Lists.{and_left, and_right, and_both, or-false-left, or-false-right}
+use Rattle.rules.proofs.Lists.{and_left, and_right, and_both, or_false-left, or_false_right}
 use Rattle.rules.proofs.Typed.{padded-room}
 use Rattle.arrays.specs.Arrays.{pad}
-use Rattle.arrays.proofs.Lists.{getD-pad, map-append, any_found, Filled}
+use Rattle.arrays.proofs.Lists.{get_d_pad, map-append, any_found, Filled}
 use Rattle.manifests.specs.declared.KeptManifest.{KeptManifest}
 use Rattle.manifests.specs.declared.Manifests.{Manifests}
 use Rattle.manifests.specs.declared.Reach.{Reach}
-use Rattle.manifests.specs.Manifests.{manifestOf, manifestsOf, isListLaid, isLaid}
-use Rattle.manifests.specs.Search.{Search, over, afterRead, middle, part, search}
-use Rattle.manifests.specs.Reach.{reached, reads_of, reachOf, ReachByHalves, names_at, countsAt, listsIn, Searchable}
-use Rattle.manifests.proofs.Places.{all-at, hasRoom, Long, few as kept-few, padded}
-use Rattle.manifests.proofs.Searching.{search-none, search-next, search-by-halves}
+use Rattle.manifests.specs.Manifests.{manifest_of, manifests_of, is_list_laid, is_laid}
+use Rattle.manifests.specs.Search.{Search, over, after_read, middle, part, search}
+use Rattle.manifests.specs.Reach.{reached, reads_of, reach_of, ReachByHalves, names_at, counts_at, lists_in, Searchable}
+use Rattle.manifests.proofs.Places.{all-at, has_room, Long, few as kept-few, padded}
+use Rattle.manifests.proofs.Searching.{search-none, search-next, search-by_halves}
 
 -- One turn of the search, on the names from low up to high
 
-pub search-empty : (n : ℕ) (l : List ℕ) (low high : ℕ) → low ≡ high → search n (slice low high l) ≡ over false
-search-empty n l low high e = ap (λ (k : ℕ). search n (slice k high l)) e ∙ ap (search n) (slice_empty high l) ∙ search-none n
+pub search_empty : (n : ℕ) (l : List ℕ) (low high : ℕ) → low ≡ high → search n (slice low high l) ≡ over false
+search_empty n l low high e = ap (λ (k : ℕ). search n (slice k high l)) e ∙ ap (search n) (slice_empty high l) ∙ search-none n
 
 module _ (n : ℕ) (l : List ℕ) {low high : ℕ} (some : low < high) (room : high ≤ length l) where
   abbrev at : ℕ
@@ -55,20 +55,20 @@ module _ (n : ℕ) (l : List ℕ) {low high : ℕ} (some : low < high) (room : h
       ∙ drop_at (take low (take high l)) _ low (length-take-le low (take high l) (omega (arith, length-take-le high l room))))
 
   next : (b c : Bool) → eqb n (get_or l at 0) ≡ b → ltb (get_or l at 0) n ≡ c
-      → search n left ≡ afterRead (cond b (over true) (search n (cond c (slice (at + 1) high l) (slice low at l))))
+      → search n left ≡ after_read (cond b (over true) (search n (cond c (slice (at + 1) high l) (slice low at l))))
   next b c e f =
       search-next n left (omega (arith, long))
-      ∙ ap (λ (k : ℕ). afterRead (cond (eqb n k) (over true) (search n (part (ltb k n) left)))) read
-      ∙ ap₂ (λ (x y : Bool). afterRead (cond x (over true) (search n (part y left)))) e f
-      ∙ ap (λ (x : List ℕ). afterRead (cond b (over true) (search n x))) (parts c)
+      ∙ ap (λ (k : ℕ). after_read (cond (eqb n k) (over true) (search n (part (ltb k n) left)))) read
+      ∙ ap₂ (λ (x y : Bool). after_read (cond x (over true) (search n (part y left)))) e f
+      ∙ ap (λ (x : List ℕ). after_read (cond b (over true) (search n x))) (parts c)
 
-  pub here : get_or l at 0 ≡ n → search n left ≡ afterRead (over true)
+  pub here : get_or l at 0 ≡ n → search n left ≡ after_read (over true)
   here e = next true (ltb (get_or l at 0) n) (eq-eqb _ _ (sym e)) refl
 
-  pub up : (get_or l at 0 ≡ n → ⊥) → get_or l at 0 < n → search n left ≡ afterRead (search n (slice (at + 1) high l))
+  pub up : (get_or l at 0 ≡ n → ⊥) → get_or l at 0 < n → search n left ≡ after_read (search n (slice (at + 1) high l))
   up d h = next false true (ne_eqb _ _ (λ e. d (sym e))) (lt-ltb _ _ h)
 
-  pub down : (get_or l at 0 ≡ n → ⊥) → n ≤ get_or l at 0 → search n left ≡ afterRead (search n (slice low at l))
+  pub down : (get_or l at 0 ≡ n → ⊥) → n ≤ get_or l at 0 → search n left ≡ after_read (search n (slice low at l))
   down d h = next false false (ne_eqb _ _ (λ e. d (sym e))) (le-ltb _ _ h)
 
 -- The count so far, and what the rest of the list says, are what the whole list says
@@ -77,40 +77,40 @@ module _ (n : ℕ) (l : List ℕ) {low high : ℕ} (some : low < high) (room : h
 abbrev after : ℕ → Search → Search
 after k s = record { found = s.found; reads = k + s.reads }
 
-after_read : (k : ℕ) (s : Search) → after k (afterRead s) ≡ after (k + 1) s
-after_read k s = let same : k + suc s.reads ≡ k + 1 + s.reads = omega arith in λ i. record { found = s.found; reads = same i }
+after_read_lem : (k : ℕ) (s : Search) → after k (after_read s) ≡ after (k + 1) s
+after_read_lem k s = let same : k + suc s.reads ≡ k + 1 + s.reads = omega arith in λ i. record { found = s.found; reads = same i }
 
 -- part is the search of what is left; counts has the count so far at place i, and else what first had
 pub record Searched (whole part : Search) (i : ℕ) (first counts : List ℕ) : Type 0 where
   pub says : after (get_or counts i 0) part ≡ whole
   pub elsewhere : counts ≡ set first i (get_or counts i 0)
 
-pub searched-none : {whole : Search} (i : ℕ) (counts : List ℕ) → get_or counts i 0 ≡ 0 → Searched whole whole i counts counts
-searched-none {whole} i counts z = record {
+pub searched_none : {whole : Search} (i : ℕ) (counts : List ℕ) → get_or counts i 0 ≡ 0 → Searched whole whole i counts counts
+searched_none {whole} i counts z = record {
   says = let same : get_or counts i 0 + whole.reads ≡ whole.reads = omega (arith, z) in λ j. record { found = whole.found; reads = same j };
   elsewhere = sym (set-get_or counts i 0);
 }
 
 module _ {whole part : Search} {i : ℕ} {first counts : List ℕ} (s : Searched whole part i first counts) where
-  pub searched-read : i < length counts → {rest : Search} → part ≡ afterRead rest → Searched whole rest i first (set counts i (get_or counts i 0 + 1))
-  searched-read room {rest} e =
+  pub searched_read : i < length counts → {rest : Search} → part ≡ after_read rest → Searched whole rest i first (set counts i (get_or counts i 0 + 1))
+  searched_read room {rest} e =
       let one : get_or (set counts i (get_or counts i 0 + 1)) i 0 ≡ get_or counts i 0 + 1 = get_or-set_same counts i _ 0 room in
       record {
-        says = ap (λ (k : ℕ). after k rest) one ∙ sym (after_read (get_or counts i 0) rest) ∙ ap (after (get_or counts i 0)) (sym e) ∙ s.says;
+        says = ap (λ (k : ℕ). after k rest) one ∙ sym (after_read_lem (get_or counts i 0) rest) ∙ ap (after (get_or counts i 0)) (sym e) ∙ s.says;
         elsewhere = ap (λ (l : List ℕ). set l i (get_or counts i 0 + 1)) s.elsewhere ∙ set-set first i _ _ ∙ ap (set first i) (sym one);
       }
 
-  pub searched-over : {b : Bool} → part ≡ over b → (whole.found ≡ b) × (counts ≡ set first i whole.reads)
-  searched-over e =
+  pub searched_over : {b : Bool} → part ≡ over b → (whole.found ≡ b) × (counts ≡ set first i whole.reads)
+  searched_over e =
       let all : get_or counts i 0 ≡ whole.reads = omega (arith, ap (λ (w : Search). w.reads) s.says, ap (λ (w : Search). w.reads) e) in
       (ap (λ (w : Search). w.found) (sym s.says ∙ ap (after (get_or counts i 0)) e), s.elsewhere ∙ ap (set first i) all)
 
 -- The counts of the lists passed, none of which has the object
 
 -- the next list has no count yet
-pub filled-empty : {A : Type 0} (k : ℕ) (f : A → ℕ) (l : List A) (i : ℕ) {counts : List ℕ} → Filled k 0 f l i counts → get_or counts i 0 ≡ 0
-filled-empty k f l i e =
-    ap (λ (a : List ℕ). get_or a i 0) e ∙ getD-pad k 0 (map f (take i l)) i
+pub filled_empty : {A : Type 0} (k : ℕ) (f : A → ℕ) (l : List A) (i : ℕ) {counts : List ℕ} → Filled k 0 f l i counts → get_or counts i 0 ≡ 0
+filled_empty k f l i e =
+    ap (λ (a : List ℕ). get_or a i 0) e ∙ get_d_pad k 0 (map f (take i l)) i
     ∙ get_or-eq_default (map f (take i l)) 0 (omega (arith, length-map (take i l) f, length-take i l))
 
 module _ (n : ℕ) where
@@ -120,32 +120,32 @@ module _ (n : ℕ) where
   abbrev pub counted : List ℕ → ℕ
   counted l = (search n l).reads
 
-  reads-passed : (ls rest : List (List ℕ)) → any finds ls ≡ false → reads_of (ls ++ rest) n ≡ map counted ls ++ reads_of rest n
+  reads_passed : (ls rest : List (List ℕ)) → any finds ls ≡ false → reads_of (ls ++ rest) n ≡ map counted ls ++ reads_of rest n
   unfolding any reads_of
-  reads-passed [] rest e = refl
-  reads-passed (l ∷ ls) rest e =
-      ap (λ (b : Bool). counted l ∷ cond b [] (reads_of (ls ++ rest) n)) (or-false-left (finds l) (any finds ls) e)
-      ∙ ap (λ (r : List ℕ). counted l ∷ r) (reads-passed ls rest (or-false-right (finds l) (any finds ls) e))
+  reads_passed [] rest e = refl
+  reads_passed (l ∷ ls) rest e =
+      ap (λ (b : Bool). counted l ∷ cond b [] (reads_of (ls ++ rest) n)) (or_false-left (finds l) (any finds ls) e)
+      ∙ ap (λ (r : List ℕ). counted l ∷ r) (reads_passed ls rest (or_false_right (finds l) (any finds ls) e))
 
   -- the test's answer where no list has it, and where the one at i is the first
-  pub reach-none : {found : Bool} {reads : List ℕ} (ls : List (List ℕ)) → found ≡ false → any finds ls ≡ false → reads ≡ pad (manifestLimit limits) 0 (map counted ls)
-      → ◌≡◌ {A = Reach} (record { found = found; reads = reads }) (reachOf ls n)
+  pub reach-none : {found : Bool} {reads : List ℕ} (ls : List (List ℕ)) → found ≡ false → any finds ls ≡ false → reads ≡ pad (manifest_limit limits) 0 (map counted ls)
+      → ◌≡◌ {A = Reach} (record { found = found; reads = reads }) (reach_of ls n)
   unfolding reached reads_of
   reach-none ls e none all = λ j. record {
     found = (e ∙ sym none) j;
-    reads = (all ∙ ap (pad (manifestLimit limits) 0) (sym same)) j;
+    reads = (all ∙ ap (pad (manifest_limit limits) 0) (sym same)) j;
   }
     where
       same : reads_of ls n ≡ map counted ls
-      same = ap (λ (l : List (List ℕ)). reads_of l n) (sym (append-nil ls)) ∙ reads-passed ls [] none ∙ append-nil (map counted ls)
+      same = ap (λ (l : List (List ℕ)). reads_of l n) (sym (append-nil ls)) ∙ reads_passed ls [] none ∙ append-nil (map counted ls)
 
   pub reach-found : {reads : List ℕ} (ls : List (List ℕ)) (i : ℕ) → i < length ls
-      → any finds (take i ls) ≡ false → finds (get_or ls i []) ≡ true → reads ≡ pad (manifestLimit limits) 0 (map counted (take (i + 1) ls))
-      → ◌≡◌ {A = Reach} (record { found = true; reads = reads }) (reachOf ls n)
+      → any finds (take i ls) ≡ false → finds (get_or ls i []) ≡ true → reads ≡ pad (manifest_limit limits) 0 (map counted (take (i + 1) ls))
+      → ◌≡◌ {A = Reach} (record { found = true; reads = reads }) (reach_of ls n)
   unfolding reached reads_of
   reach-found {reads} ls i h none here all = λ j. record {
     found = sym (any_found finds ls i [] h here) j;
-    reads = (all ∙ ap (pad (manifestLimit limits) 0) (sym same)) j;
+    reads = (all ∙ ap (pad (manifest_limit limits) 0) (sym same)) j;
   }
     where
       l : List ℕ
@@ -159,25 +159,25 @@ module _ (n : ℕ) where
 
       same : reads_of ls n ≡ map counted (take (i + 1) ls)
       same =
-          ap (λ (a : List (List ℕ)). reads_of a n) (split_at ls i [] h) ∙ reads-passed (take i ls) (l ∷ rest) none
+          ap (λ (a : List (List ℕ)). reads_of a n) (split_at ls i [] h) ∙ reads_passed (take i ls) (l ∷ rest) none
           ∙ ap (λ (r : List ℕ). map counted (take i ls) ++ r) one ∙ sym (map-append counted (take i ls) (l ∷ []))
           ∙ ap (map counted) (sym (take-suc ls i [] h) ∙ ap (λ (k : ℕ). take k ls) (sym (add-one i)))
 
 -- The lists in their places
 
-pub lists-long : (names : List (List ℕ)) (counts : List ℕ) → length counts ≤ length names → length (listsIn names counts) ≡ length counts
-unfolding listsIn
-lists-long [] [] h = refl
-lists-long [] (n ∷ counts) h = absurd (omega arith)
-lists-long (a ∷ rest) [] h = refl
-lists-long (a ∷ rest) (n ∷ counts) h = ap suc (lists-long rest counts (le_of_suc-le-suc h))
+pub lists_long : (names : List (List ℕ)) (counts : List ℕ) → length counts ≤ length names → length (lists_in names counts) ≡ length counts
+unfolding lists_in
+lists_long [] [] h = refl
+lists_long [] (n ∷ counts) h = absurd (omega arith)
+lists_long (a ∷ rest) [] h = refl
+lists_long (a ∷ rest) (n ∷ counts) h = ap suc (lists_long rest counts (le_of_suc-le-suc h))
 
-pub list_at : (names : List (List ℕ)) (counts : List ℕ) (i : ℕ) → get_or (listsIn names counts) i [] ≡ take (get_or counts i 0) (get_or names i [])
-unfolding listsIn
-list_at [] counts i = sym (take-nil (get_or counts i 0))
-list_at (a ∷ rest) [] i = refl
-list_at (a ∷ rest) (n ∷ counts) zero = refl
-list_at (a ∷ rest) (n ∷ counts) (suc i) = list_at rest counts i
+pub list_at_lem : (names : List (List ℕ)) (counts : List ℕ) (i : ℕ) → get_or (lists_in names counts) i [] ≡ take (get_or counts i 0) (get_or names i [])
+unfolding lists_in
+list_at_lem [] counts i = sym (take-nil (get_or counts i 0))
+list_at_lem (a ∷ rest) [] i = refl
+list_at_lem (a ∷ rest) (n ∷ counts) zero = refl
+list_at_lem (a ∷ rest) (n ∷ counts) (suc i) = list_at_lem rest counts i
 
 -- what is asked of the lists, at i
 module _ {names : List (List ℕ)} {counts : List ℕ} (s : Searchable names counts) (i : ℕ) (h : i < length counts) where
@@ -189,34 +189,34 @@ module _ {names : List (List ℕ)} {counts : List ℕ} (s : Searchable names cou
 
 -- The lists of the kept manifests
 
-lists_of : (k : ℕ) (ms : List KeptManifest) → listsIn (names_at ms) (take k (countsAt ms)) ≡ map (λ (m : Manifest). m.names) (map manifestOf (take k ms))
-unfolding listsIn
+lists_of : (k : ℕ) (ms : List KeptManifest) → lists_in (names_at ms) (take k (counts_at ms)) ≡ map (λ (m : Manifest). m.names) (map manifest_of (take k ms))
+unfolding lists_in
 lists_of zero [] = refl
 lists_of zero (m ∷ ms) = refl
 lists_of (suc k) [] = refl
 lists_of (suc k) (m ∷ ms) = ap (λ (ls : List (List ℕ)). take m.count m.names ∷ ls) (lists_of k ms)
 
-pub lists-laid : (ms : Manifests) → listsIn (names_at ms.items) (take ms.count (countsAt ms.items)) ≡ map (λ (m : Manifest). m.names) (manifestsOf ms)
+pub lists-laid : (ms : Manifests) → lists_in (names_at ms.items) (take ms.count (counts_at ms.items)) ≡ map (λ (m : Manifest). m.names) (manifests_of ms)
 lists-laid ms = lists_of ms.count ms.items
 
 -- each list fits its array, and each array is whole
-counts-few : (k : ℕ) (ms : List KeptManifest) → all hasRoom ms ≡ true → all isListLaid (take k ms) ≡ true → all (λ n. leb n limits.names) (take k (countsAt ms)) ≡ true
+counts-few : (k : ℕ) (ms : List KeptManifest) → all has_room ms ≡ true → all is_list_laid (take k ms) ≡ true → all (λ n. leb n limits.names) (take k (counts_at ms)) ≡ true
 unfolding all
 counts-few zero ms r e = refl
 counts-few (suc k) [] r e = refl
 counts-few (suc k) (m ∷ ms) r e =
-    let fits = padded-room m.count m.names (and_left (isListLaid m) _ e) in
-    and_both (leb m.count limits.names) _ (le-leb m.count limits.names (omega (arith, eqb-true (length m.names) limits.names (and_left (hasRoom m) _ r))))
-    (counts-few k ms (and_right (hasRoom m) _ r) (and_right (isListLaid m) _ e))
+    let fits = padded-room m.count m.names (and_left (is_list_laid m) _ e) in
+    and_both (leb m.count limits.names) _ (le-leb m.count limits.names (omega (arith, eqb-true (length m.names) limits.names (and_left (has_room m) _ r))))
+    (counts-few k ms (and_right (has_room m) _ r) (and_right (is_list_laid m) _ e))
 
-arrays-whole : (ms : List KeptManifest) → all hasRoom ms ≡ true → all (λ a. eqb (length a) limits.names) (names_at ms) ≡ true
+arrays-whole : (ms : List KeptManifest) → all has_room ms ≡ true → all (λ a. eqb (length a) limits.names) (names_at ms) ≡ true
 unfolding all
 arrays-whole [] r = refl
-arrays-whole (m ∷ ms) r = and_both (hasRoom m) _ (and_left (hasRoom m) _ r) (arrays-whole ms (and_right (hasRoom m) _ r))
+arrays-whole (m ∷ ms) r = and_both (has_room m) _ (and_left (has_room m) _ r) (arrays-whole ms (and_right (has_room m) _ r))
 
-pub searchable : (ms : Manifests) → Long ms → isLaid ms ≡ true → Searchable (names_at ms.items) (take ms.count (countsAt ms.items))
+pub searchable : (ms : Manifests) → Long ms → is_laid ms ≡ true → Searchable (names_at ms.items) (take ms.count (counts_at ms.items))
 searchable ms l e =
-    let counts = countsAt ms.items in
+    let counts = counts_at ms.items in
     let short = length-take ms.count counts in
     record {
       arrays = omega (arith, length-map ms.items (λ (m : KeptManifest). m.count), length-map ms.items (λ (m : KeptManifest). m.names));
@@ -227,20 +227,20 @@ searchable ms l e =
 
 -- Rising lists keep the answer, and each list's count is within its own bound
 
-keeps : (ls : List (List ℕ)) (n : ℕ) → all (risingAbove 0) ls ≡ true → reached ls n ≡ any (has n) ls
+keeps : (ls : List (List ℕ)) (n : ℕ) → all (rising_above 0) ls ≡ true → reached ls n ≡ any (has n) ls
 unfolding all any reached
 keeps [] n e = refl
-keeps (l ∷ ls) n e = ap₂ ◌||◌ (search-by-halves.keeps 0 n l (and_left (risingAbove 0 l) _ e)) (keeps ls n (and_right (risingAbove 0 l) _ e))
+keeps (l ∷ ls) n e = ap₂ ◌||◌ (search-by_halves.keeps 0 n l (and_left (rising_above 0 l) _ e)) (keeps ls n (and_right (rising_above 0 l) _ e))
 
 few : (ls : List (List ℕ)) (n i r : ℕ) → length (get_or ls i []) < 2 ^ r → get_or (reads_of ls n) i 0 ≤ r
 unfolding reads_of
 few [] n i r h = omega arith
-few (l ∷ ls) n zero r h = search-by-halves.few n l r h
+few (l ∷ ls) n zero r h = search-by_halves.few n l r h
 few (l ∷ ls) n (suc i) r h = later (search n l).found (reads_of ls n) (few ls n i r h)
   where
     later : (b : Bool) (l : List ℕ) → get_or l i 0 ≤ r → get_or (cond b [] l) i 0 ≤ r
     later true l k = omega arith
     later false l k = k
 
-pub reach-by-halves : ReachByHalves
-reach-by-halves = record { keeps = keeps; few = λ ls n i r h. rw (getD-pad (manifestLimit limits) 0 (reads_of ls n) i) (few ls n i r h) }
+pub reach-by_halves : ReachByHalves
+reach-by_halves = record { keeps = keeps; few = λ ls n i r h. rw (get_d_pad (manifest_limit limits) 0 (reads_of ls n) i) (few ls n i r h) }

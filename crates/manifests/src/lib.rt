@@ -1,13 +1,13 @@
 // The kept manifests of a ledger: one to nine, packed in rising number; the last is current.
 ghost use Rattle.std.specs.Prelude.{◌≡◌, true, [], ◌∷◌, ◌++◌, map, ◌≤◌, take, drop};
-ghost use Rattle.rules.specs.Limits.{limits, manifestLimit};
+ghost use Rattle.rules.specs.Limits.{limits, manifest_limit};
 ghost use Rattle.rules.specs.Lists.{keep, all};
-ghost use Rattle.rules.specs.State.{firstManifest};
-ghost use Rattle.rules.specs.Step.{heldBy};
+ghost use Rattle.rules.specs.State.{first_manifest};
+ghost use Rattle.rules.specs.Step.{held_by};
 ghost use Rattle.rules.specs.Sound.{ordered};
 ghost use Rattle.holds.specs.Holds.{holds_of};
-ghost use Rattle.manifests.specs.Manifests.{layManifest, manifestOf, manifestsOf, layManifests, currentOf, olderOf, isListLaid, isNoManifest, isLaid, epochsFollow, hasNumber, numbered, Repackable};
-ghost use Rattle.manifests.specs.Reach.{names_at, countsAt, listsIn, Searchable, reachOf};
+ghost use Rattle.manifests.specs.Manifests.{lay_manifest, manifest_of, manifests_of, lay_manifests, current_of, older_of, is_list_laid, is_no_manifest, is_laid, epochs_follow, has_number, numbered, Repackable};
+ghost use Rattle.manifests.specs.Reach.{names_at, counts_at, lists_in, Searchable, reach_of};
 
 use holds::Holds;
 use rules::{MANIFESTS, NAMES};
@@ -38,7 +38,7 @@ pub struct Reach {
 
 // A place that is all zero; it is also manifest 0 of the fresh ledger.
 fn zero() -> KeptManifest
-    ensures { result ≡ layManifest firstManifest }
+    ensures { result ≡ lay_manifest first_manifest }
 {
     let names = [0u64; NAMES];
     KeptManifest {
@@ -52,7 +52,7 @@ fn zero() -> KeptManifest
 
 // Whether a place is all zero.
 fn is_no_manifest(manifest: KeptManifest) -> bool
-    ensures { result ≡ isNoManifest manifest }
+    ensures { result ≡ is_no_manifest manifest }
 {
     if manifest.number != 0 {
         return false;
@@ -74,7 +74,7 @@ fn is_no_manifest(manifest: KeptManifest) -> bool
 impl Manifests {
     // Manifest 0 alone, with an empty list.
     pub fn first() -> Self
-        ensures { result ≡ layManifests (firstManifest ∷ []) }
+        ensures { result ≡ lay_manifests (first_manifest ∷ []) }
     {
         let items = [zero(); MANIFESTS];
         Manifests { count: 1, items }
@@ -82,7 +82,7 @@ impl Manifests {
 
     // Whether the unused places are all zero, of any value.
     pub fn is_laid(self) -> bool
-        ensures { result ≡ isLaid self }
+        ensures { result ≡ is_laid self }
     {
         let count = self.count;
         if count == 0 {
@@ -99,8 +99,8 @@ impl Manifests {
 
     // Whether behind each of the first lists all is 0.
     fn lists_laid(self, count: usize) -> bool
-        requires { count ≤ manifestLimit limits }
-        ensures { result ≡ all isListLaid (take count self.items) }
+        requires { count ≤ manifest_limit limits }
+        ensures { result ≡ all is_list_laid (take count self.items) }
     {
         let mut i: usize = 0;
         while i < count {
@@ -117,8 +117,8 @@ impl Manifests {
 
     // Whether the places from `count` on are all zero.
     fn rest_laid(self, count: usize) -> bool
-        requires { count ≤ manifestLimit limits }
-        ensures { result ≡ all isNoManifest (drop count self.items) }
+        requires { count ≤ manifest_limit limits }
+        ensures { result ≡ all is_no_manifest (drop count self.items) }
     {
         let mut i = count;
         while i < MANIFESTS {
@@ -133,8 +133,8 @@ impl Manifests {
 
     // Whether numbers rise, the two epochs of each add to at most its number, and neither falls. No sum may wrap.
     pub fn is_ordered(self) -> bool
-        requires { isLaid self ≡ true }
-        ensures { result ≡ ordered 0 0 0 (manifestsOf self) }
+        requires { is_laid self ≡ true }
+        ensures { result ≡ ordered 0 0 0 (manifests_of self) }
     {
         let count = self.count;
         let mut writer: u64 = 0;
@@ -161,8 +161,8 @@ impl Manifests {
 
     // Whether a hold names each manifest but the current one.
     pub fn older_held(self, holds: Holds) -> bool
-        requires { (isLaid self ≡ true) × (holds.count ≤ limits.holds) }
-        ensures { result ≡ all (heldBy (holds_of holds)) (olderOf self) }
+        requires { (is_laid self ≡ true) × (holds.count ≤ limits.holds) }
+        ensures { result ≡ all (held_by (holds_of holds)) (older_of self) }
     {
         let older = self.count - 1;
         let mut i: usize = 0;
@@ -178,8 +178,8 @@ impl Manifests {
 
     // Whether a kept manifest has this number.
     pub fn has_number(self, number: u64) -> bool
-        requires { isLaid self ≡ true }
-        ensures { result ≡ hasNumber (manifestsOf self) number }
+        requires { is_laid self ≡ true }
+        ensures { result ≡ has_number (manifests_of self) number }
     {
         let count = self.count;
         let mut i: usize = 0;
@@ -195,8 +195,8 @@ impl Manifests {
 
     // The kept manifest of this number; where there is none, manifest 0 with an empty list.
     pub fn numbered(self, number: u64) -> KeptManifest
-        requires { isLaid self ≡ true }
-        ensures { result ≡ layManifest (numbered (manifestsOf self) number) }
+        requires { is_laid self ≡ true }
+        ensures { result ≡ lay_manifest (numbered (manifests_of self) number) }
     {
         let count = self.count;
         let mut i: usize = 0;
@@ -212,8 +212,8 @@ impl Manifests {
 
     // The current manifest is the last.
     pub fn current(self) -> KeptManifest
-        requires { isLaid self ≡ true }
-        ensures { result ≡ currentOf self }
+        requires { is_laid self ≡ true }
+        ensures { result ≡ current_of self }
     {
         let last = self.count - 1;
         self.items[last]
@@ -236,7 +236,7 @@ impl Manifests {
     }
 
     pub fn counts(self) -> [usize; MANIFESTS]
-        ensures { result ≡ countsAt self.items }
+        ensures { result ≡ counts_at self.items }
     {
         let mut counts = [0usize; MANIFESTS];
         let mut i: usize = 0;
@@ -251,7 +251,7 @@ impl Manifests {
     // Of the first n manifests those that a hold names, and behind them `last`, which is then current.
     pub fn repacked(self, n: usize, holds: Holds, last: KeptManifest) -> Self
         requires { Repackable self n holds last }
-        ensures { result ≡ layManifests (keep (heldBy (holds_of holds)) (map manifestOf (take n self.items)) ++ (manifestOf last ∷ [])) }
+        ensures { result ≡ lay_manifests (keep (held_by (holds_of holds)) (map manifest_of (take n self.items)) ++ (manifest_of last ∷ [])) }
     {
         let mut items = [zero(); MANIFESTS];
         let mut k: usize = 0;
@@ -276,7 +276,7 @@ impl Manifests {
 // A sound list rises, so it is searched by halves; the loops are left by the label once the object is found.
 pub fn reaches(names: &[[u64; NAMES]], counts: &[usize], object: u64) -> Reach
     requires { Searchable names.now counts.now }
-    ensures { result ≡ reachOf (listsIn names.now counts.now) object }
+    ensures { result ≡ reach_of (lists_in names.now counts.now) object }
 {
     let mut found = false;
     let mut reads = [0usize; MANIFESTS];
@@ -305,7 +305,7 @@ pub fn reaches(names: &[[u64; NAMES]], counts: &[usize], object: u64) -> Reach
 
 // Whether the two epochs add to at most the number, and neither is below the one before.
 fn follows(manifest: KeptManifest, writer: u64, compactor: u64) -> bool
-    ensures { result ≡ epochsFollow writer compactor (manifestOf manifest) }
+    ensures { result ≡ epochs_follow writer compactor (manifest_of manifest) }
 {
     let number = manifest.number;
     if manifest.writer < writer {

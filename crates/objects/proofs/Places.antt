@@ -16,26 +16,26 @@ use mir.Val.{Val}
 use denote.Laws.{Is}
 use denote.Struct.Field.{u64-field}
 use Rattle.rules.specs.declared.Object.{Object}
-use Rattle.rules.specs.Limits.{limits, wordCount, wordBits}
+use Rattle.rules.specs.Limits.{limits, word_count, word_bits}
 use Rattle.rules.specs.Lists.{◌∈◌, keep, any, has, lookup, distinct}
 use Rattle.rules.specs.State.{occupied}
 use Rattle.rules.specs.Step.{mark}
 use Rattle.rules.specs.Table.{nonzero}
-use Rattle.rules.proofs.Lists.{and_left, and_right, and_both, or_left, or_right, or-false-left, or-false-right, any_same}
+use Rattle.rules.proofs.Lists.{and_left, and_right, and_both, or_left, or_right, or_false-left, or_false_right, any_same}
 use Rattle.rules.proofs.Laws
 use Rattle.rules.proofs.Numbers.{has_in}
 use Rattle.rules.specs.contracts.Object as object
-use Rattle.arrays.proofs.Lists.{keep_append, keep-kept, keep_left, any_append, any-keep, and-any, any-map, map-set}
+use Rattle.arrays.proofs.Lists.{keep_append, keep-kept, keep_left, any_append, any-keep, and_any, any-map, map-set}
 use Rattle.objects.specs.declared.Objects.{Objects}
-use Rattle.objects.specs.Occupancy.{words_of, flags_of, used, lowestFree, withFlag, ByWords}
-use Rattle.objects.specs.Objects.{wordsAt, layPlaces, same, isLaid, numbersAt, named_at, currenciesAt, among, beside, currencyAmong, storedIn, currencyIn, named_in, numbersIn}
-use Rattle.objects.proofs.Words.{occupancy-by-words, length-words}
+use Rattle.objects.specs.Occupancy.{words_of, flags_of, used, lowest_free, with_flag, ByWords}
+use Rattle.objects.specs.Objects.{words_at, lay_places, same, is_laid, numbers_at, named_at, currencies_at, among, beside, currency_among, stored_in, currency_in, named_in, numbers_in}
+use Rattle.objects.proofs.Words.{occupancy-by_words, length-words}
 use Rattle.objects.specs.contracts.Objects as objects
 
-pub items-long : (o : Objects) (vs : List Val) → Is objects.the_row o vs → length o.items ≡ limits.places
-items-long o vs is = sym (length-map o.items (object.the_field).into) ∙ is.1.1.1.0.1.0.1
+pub items_long : (o : Objects) (vs : List Val) → Is objects.the_row o vs → length o.items ≡ limits.places
+items_long o vs is = sym (length-map o.items (object.the_field).into) ∙ is.1.1.1.0.1.0.1
 
-pub words_long : (o : Objects) (vs : List Val) → Is objects.the_row o vs → length o.occupancy ≡ wordCount
+pub words_long : (o : Objects) (vs : List Val) → Is objects.the_row o vs → length o.occupancy ≡ word_count
 words_long o vs is = sym (length-map o.occupancy u64-field.into) ∙ is.1.1.0.1.0.1
 
 -- Numbers that are looked up among those of the places
@@ -49,19 +49,19 @@ same_test q n m = step (eqb n m) refl
     step false e = and-false (q m) ∙ sym (and-false (q n))
 
 -- the number of a free place is none that is looked for
-not-sought : (n : ℕ) → (nonzero n && eqb n 0) ≡ false
-not-sought n = step (eqb n 0)
+not_sought : (n : ℕ) → (nonzero n && eqb n 0) ≡ false
+not_sought n = step (eqb n 0)
   where
     step : (b : Bool) → (not b && b) ≡ false
     step true = refl
     step false = refl
 
-pub stored-among : (os : List Object) (n : ℕ) → storedIn os n ≡ among (numbersAt os) n
+pub stored-among : (os : List Object) (n : ℕ) → stored_in os n ≡ among (numbers_at os) n
 unfolding among has
 stored-among os n =
     any-keep (λ (o : Object). eqb n o.number) occupied os
     ∙ any_same _ _ os (λ o i. same_test nonzero n o.number)
-    ∙ sym (ap (λ (b : Bool). nonzero n && b) (any-map (λ (o : Object). o.number) (eqb n) os) ∙ and-any (λ (o : Object). eqb n o.number) (nonzero n) os)
+    ∙ sym (ap (λ (b : Bool). nonzero n && b) (any-map (λ (o : Object). o.number) (eqb n) os) ∙ and_any (λ (o : Object). eqb n o.number) (nonzero n) os)
 
 pub named-among : (os : List Object) (n : ℕ) → named_in os n ≡ among (named_at os) n
 unfolding among has
@@ -69,14 +69,14 @@ named-among os n =
     any-keep (λ (o : Object). eqb n o.number && o.named) occupied os
     ∙ any_same _ _ os (λ o i. step o o.named)
     ∙ sym (ap (λ (b : Bool). nonzero n && b) (any-map (λ (o : Object). cond o.named o.number 0) (eqb n) os)
-    ∙ and-any (λ (o : Object). eqb n (cond o.named o.number 0)) (nonzero n) os)
+    ∙ and_any (λ (o : Object). eqb n (cond o.named o.number 0)) (nonzero n) os)
   where
     step : (o : Object) (b : Bool) → (occupied o && (eqb n o.number && b)) ≡ (nonzero n && eqb n (cond b o.number 0))
     step o true = ap (λ (b : Bool). occupied o && b) (and-true (eqb n o.number)) ∙ same_test nonzero n o.number
-    step o false = ap (λ (b : Bool). occupied o && b) (and-false (eqb n o.number)) ∙ and-false (occupied o) ∙ sym (not-sought n)
+    step o false = ap (λ (b : Bool). occupied o && b) (and-false (eqb n o.number)) ∙ and-false (occupied o) ∙ sym (not_sought n)
 
 -- the currency beside a number that is not a free place's
-currency-beside : (n : ℕ) → nonzero n ≡ true → (os : List Object) → beside (numbersAt os) (currenciesAt os) n ≡ currencyIn os n
+currency-beside : (n : ℕ) → nonzero n ≡ true → (os : List Object) → beside (numbers_at os) (currencies_at os) n ≡ currency_in os n
 unfolding beside keep lookup
 currency-beside n some [] = refl
 currency-beside n some (o ∷ os) = step (occupied o) refl (currency-beside n some os)
@@ -84,18 +84,18 @@ currency-beside n some (o ∷ os) = step (occupied o) refl (currency-beside n so
     ask : List Object → ℕ
     ask l = lookup (λ (o : Object). o.number) (λ o. o.currency) 0 n l
 
-    step : (b : Bool) → occupied o ≡ b → beside (numbersAt os) (currenciesAt os) n ≡ ask (keep occupied os)
-        → cond (eqb n o.number) o.currency (beside (numbersAt os) (currenciesAt os) n) ≡ ask (cond b (o ∷ keep occupied os) (keep occupied os))
+    step : (b : Bool) → occupied o ≡ b → beside (numbers_at os) (currencies_at os) n ≡ ask (keep occupied os)
+        → cond (eqb n o.number) o.currency (beside (numbers_at os) (currencies_at os) n) ≡ ask (cond b (o ∷ keep occupied os) (keep occupied os))
     step true u e = ap (λ (c : ℕ). cond (eqb n o.number) o.currency c) e
     step false u e =
         let z : o.number ≡ 0 = eqb-true o.number 0 (not-false _ u) in
-        ap (λ (m : ℕ). cond (eqb n m) o.currency (beside (numbersAt os) (currenciesAt os) n)) z
-        ∙ ap (λ (b : Bool). cond b o.currency (beside (numbersAt os) (currenciesAt os) n)) (not-true (eqb n 0) some) ∙ e
+        ap (λ (m : ℕ). cond (eqb n m) o.currency (beside (numbers_at os) (currencies_at os) n)) z
+        ∙ ap (λ (b : Bool). cond b o.currency (beside (numbers_at os) (currencies_at os) n)) (not-true (eqb n 0) some) ∙ e
 
-find-zero : (os : List Object) → currencyIn os 0 ≡ 0
+find_zero : (os : List Object) → currency_in os 0 ≡ 0
 unfolding keep lookup
-find-zero [] = refl
-find-zero (o ∷ os) = step (eqb o.number 0) refl (find-zero os)
+find_zero [] = refl
+find_zero (o ∷ os) = step (eqb o.number 0) refl (find_zero os)
   where
     ask : List Object → ℕ
     ask l = lookup (λ (o : Object). o.number) (λ o. o.currency) 0 0 l
@@ -104,29 +104,29 @@ find-zero (o ∷ os) = step (eqb o.number 0) refl (find-zero os)
     step true u e = e
     step false u e = ap (λ (b : Bool). cond b o.currency (ask (keep occupied os))) (ne_eqb 0 o.number (λ z. eqb-false o.number 0 u (sym z))) ∙ e
 
-pub currency-among : (os : List Object) (n : ℕ) → currencyAmong (numbersAt os) (currenciesAt os) n ≡ currencyIn os n
-currency-among os n = step (nonzero n) refl
+pub currency_among_lem : (os : List Object) (n : ℕ) → currency_among (numbers_at os) (currencies_at os) n ≡ currency_in os n
+currency_among_lem os n = step (nonzero n) refl
   where
-    step : (b : Bool) → nonzero n ≡ b → cond b (beside (numbersAt os) (currenciesAt os) n) 0 ≡ currencyIn os n
+    step : (b : Bool) → nonzero n ≡ b → cond b (beside (numbers_at os) (currencies_at os) n) 0 ≡ currency_in os n
     step true e = currency-beside n e os
-    step false e = sym (ap (currencyIn os) (eqb-true n 0 (not-false _ e)) ∙ find-zero os)
+    step false e = sym (ap (currency_in os) (eqb-true n 0 (not-false _ e)) ∙ find_zero os)
 
 -- there is a currency for each number
-pub pair-long : {ns cs : List ℕ} (ps : List Object) → ns ≡ numbersAt ps → cs ≡ currenciesAt ps → length ns ≤ length cs
-pair-long ps n c =
+pub pair_long : {ns cs : List ℕ} (ps : List Object) → ns ≡ numbers_at ps → cs ≡ currencies_at ps → length ns ≤ length cs
+pair_long ps n c =
     let a = ap length n ∙ length-map ps (λ (o : Object). o.number) in
     let b = ap length c ∙ length-map ps (λ (o : Object). o.currency) in
     omega arith
 
 -- Distinct numbers
 
-pub numbers-kept : (os : List Object) → numbersIn os ≡ keep nonzero (numbersAt os)
+pub numbers-kept : (os : List Object) → numbers_in os ≡ keep nonzero (numbers_at os)
 unfolding keep
 numbers-kept [] = refl
 numbers-kept (o ∷ os) = step (occupied o) (numbers-kept os)
   where
-    step : (b : Bool) → numbersIn os ≡ keep nonzero (numbersAt os)
-        → numbersAt (cond b (o ∷ keep occupied os) (keep occupied os)) ≡ cond b (o.number ∷ keep nonzero (numbersAt os)) (keep nonzero (numbersAt os))
+    step : (b : Bool) → numbers_in os ≡ keep nonzero (numbers_at os)
+        → numbers_at (cond b (o ∷ keep occupied os) (keep occupied os)) ≡ cond b (o.number ∷ keep nonzero (numbers_at os)) (keep nonzero (numbers_at os))
     step true e = ap (λ (l : List ℕ). o.number ∷ l) e
     step false e = e
 
@@ -136,22 +136,22 @@ among-has ns n e = and_right (nonzero n) (has n ns) e
 
 has_kept : (n : ℕ) (ns : List ℕ) → has n (keep nonzero ns) ≡ among ns n
 unfolding has among
-has_kept n ns = any-keep (eqb n) nonzero ns ∙ any_same _ _ ns (λ m i. same_test nonzero n m) ∙ sym (and-any (eqb n) (nonzero n) ns)
+has_kept n ns = any-keep (eqb n) nonzero ns ∙ any_same _ _ ns (λ m i. same_test nonzero n m) ∙ sym (and_any (eqb n) (nonzero n) ns)
 
 -- a number that is not among those before it is one more that is distinct
 distinct_more : (n : ℕ) (xs : List ℕ) → distinct xs ≡ true → has n xs ≡ false → distinct (xs ++ n ∷ []) ≡ true
 unfolding distinct has any
 distinct_more n [] d e = refl
 distinct_more n (x ∷ xs) d e =
-    let other : eqb x n ≡ false = ne_eqb x n (λ q. eqb-false n x (or-false-left (eqb n x) (has n xs) e) (sym q)) in
+    let other : eqb x n ≡ false = ne_eqb x n (λ q. eqb-false n x (or_false-left (eqb n x) (has n xs) e) (sym q)) in
     let absent : has x (xs ++ n ∷ []) ≡ false = any_append (eqb x) xs (n ∷ []) ∙ rw (not-true (has x xs) (and_left (not (has x xs)) (distinct xs) d), other) in
-    and_both (not (has x (xs ++ n ∷ []))) (distinct (xs ++ n ∷ [])) (ap not absent) (distinct_more n xs (and_right (not (has x xs)) (distinct xs) d) (or-false-right (eqb n x) (has n xs) e))
+    and_both (not (has x (xs ++ n ∷ []))) (distinct (xs ++ n ∷ [])) (ap not absent) (distinct_more n xs (and_right (not (has x xs)) (distinct xs) d) (or_false_right (eqb n x) (has n xs) e))
 
 -- one that is stands there twice
-distinct-twice : (n : ℕ) (xs ys : List ℕ) → has n xs ≡ true → distinct (xs ++ n ∷ ys) ≡ false
+distinct_twice : (n : ℕ) (xs ys : List ℕ) → has n xs ≡ true → distinct (xs ++ n ∷ ys) ≡ false
 unfolding distinct has any
-distinct-twice n [] ys e = absurd (false≢true e)
-distinct-twice n (x ∷ xs) ys e = step (eqb n x) refl (distinct-twice n xs ys)
+distinct_twice n [] ys e = absurd (false≢true e)
+distinct_twice n (x ∷ xs) ys e = step (eqb n x) refl (distinct_twice n xs ys)
   where
     step : (b : Bool) → eqb n x ≡ b → (has n xs ≡ true → distinct (xs ++ n ∷ ys) ≡ false) → (not (has x (xs ++ n ∷ ys)) && distinct (xs ++ n ∷ ys)) ≡ false
     step true q f =
@@ -179,7 +179,7 @@ module _ (ns : List ℕ) (i : ℕ) (h : i < length ns) where
       let some : nonzero number ≡ true = and_left (nonzero number) (has number (take i ns)) e in
       ap (λ (l : List ℕ). distinct (keep nonzero l)) (sym (take-append-drop i ns) ∙ ap (λ (l : List ℕ). take i ns ++ l) (drop-cons ns i 0 h))
       ∙ ap distinct (keep_append nonzero (take i ns) (number ∷ drop (suc i) ns) ∙ ap (λ (b : Bool). keep nonzero (take i ns) ++ cond b (number ∷ keep nonzero (drop (suc i) ns)) (keep nonzero (drop (suc i) ns))) some)
-      ∙ distinct-twice number (keep nonzero (take i ns)) (keep nonzero (drop (suc i) ns)) (has_kept number (take i ns) ∙ e)
+      ∙ distinct_twice number (keep nonzero (take i ns)) (keep nonzero (drop (suc i) ns)) (has_kept number (take i ns) ∙ e)
 
 -- a number that stands behind a place stands there
 pub among-behind : (n i : ℕ) (ns : List ℕ) → has n (drop i ns) ≡ true → has n ns ≡ true
@@ -196,8 +196,8 @@ unfolding keep distinct
 passed_none ns = record { distinct = refl; below = λ n m. absurd (Memᴰ.not-nil m) }
 
 module _ (ns : List ℕ) (i highest : ℕ) (h : i < length ns) (p : Passed ns i highest) where
-  passed-next : among (take i ns) (get_or ns i 0) ≡ false → (top : ℕ) → highest ≤ top → get_or ns i 0 ≤ top → Passed ns (i + 1) top
-  passed-next new top old this = record {
+  passed_next : among (take i ns) (get_or ns i 0) ≡ false → (top : ℕ) → highest ≤ top → get_or ns i 0 ≤ top → Passed ns (i + 1) top
+  passed_next new top old this = record {
     distinct = distinct-next ns i h new p.distinct;
     below = λ n m. ⊎_elim
         (λ k. omega (arith, p.below n k))
@@ -206,54 +206,54 @@ module _ (ns : List ℕ) (i highest : ℕ) (h : i < length ns) (p : Passed ns i 
   }
 
   -- a number above all of them is new
-  pub passed-above : highest < get_or ns i 0 → Passed ns (i + 1) (get_or ns i 0)
-  passed-above above = passed-next (by (among (take i ns) (get_or ns i 0)) refl) (get_or ns i 0) (omega (arith, above)) (omega arith)
+  pub passed_above : highest < get_or ns i 0 → Passed ns (i + 1) (get_or ns i 0)
+  passed_above above = passed_next (by (among (take i ns) (get_or ns i 0)) refl) (get_or ns i 0) (omega (arith, above)) (omega arith)
     where
       by : (b : Bool) → among (take i ns) (get_or ns i 0) ≡ b → b ≡ false
       by true e = absurd (omega (arith, above, p.below (get_or ns i 0) (has_in (get_or ns i 0) (take i ns) (among-has (take i ns) (get_or ns i 0) e))))
       by false e = refl
 
-  pub passed-other : get_or ns i 0 ≤ highest → among (take i ns) (get_or ns i 0) ≡ false → Passed ns (i + 1) highest
-  passed-other other new = passed-next new highest (omega arith) other
+  pub passed_other : get_or ns i 0 ≤ highest → among (take i ns) (get_or ns i 0) ≡ false → Passed ns (i + 1) highest
+  passed_other other new = passed_next new highest (omega arith) other
 
 -- The occupancy words
 
-pub same-eq : (l k : List ℕ) → same l k ≡ true → l ≡ k
+pub same_eq : (l k : List ℕ) → same l k ≡ true → l ≡ k
 unfolding same
-same-eq [] [] e = refl
-same-eq [] (n ∷ ns) e = absurd (false≢true e)
-same-eq (m ∷ ms) [] e = absurd (false≢true e)
-same-eq (m ∷ ms) (n ∷ ns) e = ap₂ ◌∷◌ (eqb-true m n (and_left (eqb m n) (same ms ns) e)) (same-eq ms ns (and_right (eqb m n) (same ms ns) e))
+same_eq [] [] e = refl
+same_eq [] (n ∷ ns) e = absurd (false≢true e)
+same_eq (m ∷ ms) [] e = absurd (false≢true e)
+same_eq (m ∷ ms) (n ∷ ns) e = ap₂ ◌∷◌ (eqb-true m n (and_left (eqb m n) (same ms ns) e)) (same_eq ms ns (and_right (eqb m n) (same ms ns) e))
 
 pub same_refl : (l : List ℕ) → same l l ≡ true
 unfolding same
 same_refl [] = refl
 same_refl (n ∷ ns) = and_both (eqb n n) (same ns ns) (eq-eqb n n refl) (same_refl ns)
 
-pub laid-words : (o : Objects) → isLaid o ≡ true → o.occupancy ≡ wordsAt o.items
-laid-words o e = same-eq o.occupancy (wordsAt o.items) e
+pub laid-words : (o : Objects) → is_laid o ≡ true → o.occupancy ≡ words_at o.items
+laid-words o e = same_eq o.occupancy (words_at o.items) e
 
-pub laid-count : (o : Objects) → isLaid o ≡ true → length o.occupancy ≡ wordCount
-laid-count o e = ap length (laid-words o e) ∙ length-words wordBits wordCount (map occupied o.items)
+pub laid-count : (o : Objects) → is_laid o ≡ true → length o.occupancy ≡ word_count
+laid-count o e = ap length (laid-words o e) ∙ length-words word_bits word_count (map occupied o.items)
 
-pub lay-laid : (ps : List Object) → isLaid (layPlaces ps) ≡ true
-lay-laid ps = same_refl (wordsAt ps)
+pub lay-laid : (ps : List Object) → is_laid (lay_places ps) ≡ true
+lay-laid ps = same_refl (words_at ps)
 
-pub laid_out : (o : Objects) → isLaid o ≡ true → layPlaces o.items ≡ o
+pub laid_out : (o : Objects) → is_laid o ≡ true → lay_places o.items ≡ o
 laid_out o e = λ i. record { occupancy = sym (laid-words o e) i; items = o.items }
 
 -- the laws of the words, at four of 64 bits
-pub places-by-words : (ps : List Object) → length ps ≡ limits.places → ByWords wordBits wordCount (map occupied ps)
-places-by-words ps long = occupancy-by-words wordBits wordCount (map occupied ps) (omega arith) (length-map ps occupied ∙ long)
+pub places-by_words : (ps : List Object) → length ps ≡ limits.places → ByWords word_bits word_count (map occupied ps)
+places-by_words ps long = occupancy-by_words word_bits word_count (map occupied ps) (omega arith) (length-map ps occupied ∙ long)
 
 -- the words' flags say which places are taken
-pub laid-flags : (o : Objects) → isLaid o ≡ true → length o.items ≡ limits.places → flags_of wordBits o.occupancy ≡ map occupied o.items
-laid-flags o e long = ap (flags_of wordBits) (laid-words o e) ∙ (places-by-words o.items long).flags
+pub laid-flags : (o : Objects) → is_laid o ≡ true → length o.items ≡ limits.places → flags_of word_bits o.occupancy ≡ map occupied o.items
+laid-flags o e long = ap (flags_of word_bits) (laid-words o e) ∙ (places-by_words o.items long).flags
 
 -- a place that is written has its bit as the object there
-pub set_words : (ps : List Object) → length ps ≡ limits.places → (at : ℕ) → at < length ps → (o : Object) → withFlag wordBits (occupied o) at (wordsAt ps) ≡ wordsAt (set ps at o)
+pub set_words : (ps : List Object) → length ps ≡ limits.places → (at : ℕ) → at < length ps → (o : Object) → with_flag word_bits (occupied o) at (words_at ps) ≡ words_at (set ps at o)
 set_words ps long at h o =
-    (places-by-words ps long).change (occupied o) at (omega (arith, length-map ps occupied)) ∙ ap (words_of wordBits wordCount) (sym (map-set occupied ps at o))
+    (places-by_words ps long).change (occupied o) at (omega (arith, length-map ps occupied)) ∙ ap (words_of word_bits word_count) (sym (map-set occupied ps at o))
 
 pub used-length : (ps : List Object) → used (map occupied ps) ≡ length (keep occupied ps)
 unfolding used keep
@@ -264,8 +264,8 @@ used-length (o ∷ os) = step (occupied o) (used-length os)
     step true e = omega arith
     step false e = omega arith
 
-pub lowest-place : (ps : List Object) → lowestFree (map occupied ps) ≡ Rattle.rules.proofs.Laws.lowestFree ps
-unfolding lowestFree Rattle.rules.proofs.Laws.lowestFree
+pub lowest-place : (ps : List Object) → lowest_free (map occupied ps) ≡ Rattle.rules.proofs.Laws.lowest_free ps
+unfolding lowest_free Rattle.rules.proofs.Laws.lowest_free
 lowest-place [] = refl
 lowest-place (o ∷ os) = ap (λ (n : ℕ). cond (occupied o) (suc n) 0) (lowest-place os)
 

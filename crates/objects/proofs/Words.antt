@@ -12,30 +12,30 @@ use lib.Bits.{bit_and, bit_or, and_step, or_step, or_zero_r, and_mask}
 use lib.Count.{ones, ones_step, count_trailing_zeros}
 use lib.ListN.{length, take, drop, get_or, set, length-drop, take-append-drop}
 use lib.Seq.{length-take-le, take-set-lt, take-set-le, drop-set-lt, drop-set-add}
-use Rattle.objects.specs.Occupancy.{word, flags, words_of, flags_of, lowestFree, used, withFlag, OccupancyByWords}
+use Rattle.objects.specs.Occupancy.{word, flags, words_of, flags_of, lowest_free, used, with_flag, OccupancyByWords}
 
 -- a flag as a digit
 abbrev digit : Bool → ℕ
 digit b = cond b 1 0
 
-digit-le : (b : Bool) → digit b ≤ 1
-digit-le true = omega arith
-digit-le false = omega arith
+digit_le : (b : Bool) → digit b ≤ 1
+digit_le true = omega arith
+digit_le false = omega arith
 
 digit-eqb : (b : Bool) → eqb (digit b) 1 ≡ b
 digit-eqb true = refl
 digit-eqb false = refl
 
 low : (b : Bool) (w : ℕ) → (w * 2 + digit b) % 2 ≡ digit b
-low b w = omega (arith, digit-le b)
+low b w = omega (arith, digit_le b)
 
 high : (b : Bool) (w : ℕ) → (w * 2 + digit b) / 2 ≡ w
-high b w = omega (arith, digit-le b)
+high b w = omega (arith, digit_le b)
 
 pub word_lt : (bs : List Bool) → word bs < 2 ^ length bs
 unfolding word
 word_lt [] = omega arith
-word_lt (b ∷ bs) = rw pow-suc (omega (arith, digit-le b, word_lt bs))
+word_lt (b ∷ bs) = rw pow-suc (omega (arith, digit_le b, word_lt bs))
 
 -- ---- word and flags undo one another
 pub flags-word : (bs : List Bool) → flags (length bs) (word bs) ≡ bs
@@ -68,8 +68,8 @@ ones-word (b ∷ bs) =
     ones_step (word bs * 2 + digit b) ∙ ap₂ (λ (x y : ℕ). x + ones y) (low b (word bs)) (high b (word bs)) ∙ omega (arith, ones-word bs)
 
 -- ---- the trailing zeros of the inverted word are the lowest free place
-pub lowest-word : (bs : List Bool) → count_trailing_zeros (length bs) ((2 ^ length bs - 1) - word bs) ≡ lowestFree bs
-unfolding word lowestFree count_trailing_zeros
+pub lowest-word : (bs : List Bool) → count_trailing_zeros (length bs) ((2 ^ length bs - 1) - word bs) ≡ lowest_free bs
+unfolding word lowest_free count_trailing_zeros
 lowest-word [] = refl
 lowest-word (true ∷ bs) =
     let d : (2 ^ suc (length bs) - 1 - (word bs * 2 + 1)) % 2 ≡ 0 = omega (arith, pow-suc 2 (length bs), word_lt bs) in
@@ -86,38 +86,38 @@ half i = omega (arith, pow-suc 2 i)
 even : (i : ℕ) → 2 ^ suc i % 2 ≡ 0
 even i = omega (arith, pow-suc 2 i)
 
-pub or-bit : (bs : List Bool) (i : ℕ) → i < length bs → bit_or (word bs) (2 ^ i) ≡ word (set bs i true)
+pub or_bit : (bs : List Bool) (i : ℕ) → i < length bs → bit_or (word bs) (2 ^ i) ≡ word (set bs i true)
 unfolding word
-or-bit [] i h = omega arith
-or-bit (b ∷ bs) zero h =
-    or_step (word bs * 2 + digit b) 1 ∙ rw (high b (word bs), low b (word bs), or_zero_r (word bs)) (omega (arith, digit-le b))
-or-bit (b ∷ bs) (suc i) h =
+or_bit [] i h = omega arith
+or_bit (b ∷ bs) zero h =
+    or_step (word bs * 2 + digit b) 1 ∙ rw (high b (word bs), low b (word bs), or_zero_r (word bs)) (omega (arith, digit_le b))
+or_bit (b ∷ bs) (suc i) h =
     or_step (word bs * 2 + digit b) (2 ^ suc i)
-    ∙ rw (high b (word bs), low b (word bs), half i, even i, or-bit bs i (omega arith)) (omega arith)
+    ∙ rw (high b (word bs), low b (word bs), half i, even i, or_bit bs i (omega arith)) (omega arith)
 
-pub and-bit : (bs : List Bool) (i : ℕ) → i < length bs → bit_and (word bs) ((2 ^ length bs - 1) - 2 ^ i) ≡ word (set bs i false)
+pub and_bit : (bs : List Bool) (i : ℕ) → i < length bs → bit_and (word bs) ((2 ^ length bs - 1) - 2 ^ i) ≡ word (set bs i false)
 unfolding word
-and-bit [] i h = omega arith
-and-bit (b ∷ bs) zero h =
+and_bit [] i h = omega arith
+and_bit (b ∷ bs) zero h =
     let m : ℕ = 2 ^ suc (length bs) - 1 - 1 in
     let q : m / 2 ≡ 2 ^ length bs - 1 = omega (arith, pow-suc 2 (length bs), pow_pos (length bs)) in
     let d : m % 2 ≡ 0 = omega (arith, pow-suc 2 (length bs), pow_pos (length bs)) in
     let w : bit_and (word bs) (2 ^ length bs - 1) ≡ word bs = and_mask (word bs) (length bs) ∙ mod-eq_of_lt (word_lt bs) in
     and_step (word bs * 2 + digit b) m ∙ rw (high b (word bs), low b (word bs), q, d, w) (omega arith)
-and-bit (b ∷ bs) (suc i) h =
+and_bit (b ∷ bs) (suc i) h =
     let m : ℕ = 2 ^ suc (length bs) - 1 - 2 ^ suc i in
     let lt : 2 ^ i < 2 ^ length bs = pow-lt (omega arith) in
     let q : m / 2 ≡ 2 ^ length bs - 1 - 2 ^ i = omega (arith, pow-suc 2 (length bs), pow-suc 2 i) in
     let d : m % 2 ≡ 1 = omega (arith, pow-suc 2 (length bs), pow-suc 2 i) in
     and_step (word bs * 2 + digit b) m
-    ∙ rw (high b (word bs), low b (word bs), q, d, and-bit bs i (omega arith)) (omega (arith, digit-le b))
+    ∙ rw (high b (word bs), low b (word bs), q, d, and_bit bs i (omega arith)) (omega (arith, digit_le b))
 
 -- ---- the same of a word of k bits and its flags, as the code has them
 module _ (k w : ℕ) (h : w < 2 ^ k) where
   pub ones-flags : ones w ≡ used (flags k w)
   ones-flags = ap ones (sym (word_flags k w h)) ∙ ones-word (flags k w)
 
-  pub lowest-flags : count_trailing_zeros k ((2 ^ k - 1) - w) ≡ lowestFree (flags k w)
+  pub lowest-flags : count_trailing_zeros k ((2 ^ k - 1) - w) ≡ lowest_free (flags k w)
   lowest-flags =
       ap₂ (λ (j x : ℕ). count_trailing_zeros j ((2 ^ j - 1) - x)) (sym (length-flags k w)) (sym (word_flags k w h)) ∙ lowest-word (flags k w)
 
@@ -127,48 +127,48 @@ module _ (k w : ℕ) (h : w < 2 ^ k) where
 
   pub or_flags : (i : ℕ) → i < k → bit_or w (1 * 2 ^ i % 2 ^ k) ≡ word (set (flags k w) i true)
   or_flags i l =
-      ap₂ bit_or (sym (word_flags k w h)) (shifted i l) ∙ or-bit (flags k w) i (omega (arith, length-flags k w))
+      ap₂ bit_or (sym (word_flags k w h)) (shifted i l) ∙ or_bit (flags k w) i (omega (arith, length-flags k w))
 
   pub and_flags : (i : ℕ) → i < k → bit_and w ((2 ^ k - 1) - 1 * 2 ^ i % 2 ^ k) ≡ word (set (flags k w) i false)
   and_flags i l =
       ap₂ (λ (x y : ℕ). bit_and x ((2 ^ k - 1) - y)) (sym (word_flags k w h)) (shifted i l)
       ∙ ap (λ (j : ℕ). bit_and (word (flags k w)) ((2 ^ j - 1) - 2 ^ i)) (sym (length-flags k w))
-      ∙ and-bit (flags k w) i (omega (arith, length-flags k w))
+      ∙ and_bit (flags k w) i (omega (arith, length-flags k w))
 
 -- ---- a store that is not full has a free place
 pub used_le : (bs : List Bool) → used bs ≤ length bs
 unfolding used
 used_le [] = omega arith
-used_le (b ∷ bs) = omega (arith, used_le bs, digit-le b)
+used_le (b ∷ bs) = omega (arith, used_le bs, digit_le b)
 
-pub free-place : (bs : List Bool) → used bs < length bs → lowestFree bs < length bs
-unfolding used lowestFree
+pub free-place : (bs : List Bool) → used bs < length bs → lowest_free bs < length bs
+unfolding used lowest_free
 free-place [] h = omega arith
 free-place (true ∷ bs) h = omega (arith, free-place bs (omega arith))
 free-place (false ∷ bs) h = omega arith
 
 -- ---- several words: the flags of one behind those of the words before it
 
-no-places : (k : ℕ) (bs : List Bool) → length bs ≡ zero * k → [] ≡ bs
-no-places k [] e = refl
-no-places k (b ∷ bs) e = absurd (omega (arith, e, zero-mul k))
+no_places : (k : ℕ) (bs : List Bool) → length bs ≡ zero * k → [] ≡ bs
+no_places k [] e = refl
+no_places k (b ∷ bs) e = absurd (omega (arith, e, zero-mul k))
 
 module _ (k n : ℕ) (bs : List Bool) (e : length bs ≡ suc n * k) where
   -- the first word's places, and those of the others
-  pub first-long : length (take k bs) ≡ k
-  first-long = length-take-le k bs (omega (arith, e, suc-mul n k))
+  pub first_long : length (take k bs) ≡ k
+  first_long = length-take-le k bs (omega (arith, e, suc-mul n k))
 
-  pub rest-long : length (drop k bs) ≡ n * k
-  rest-long = length-drop k bs ∙ omega (arith, e, suc-mul n k)
+  pub rest_long : length (drop k bs) ≡ n * k
+  rest_long = length-drop k bs ∙ omega (arith, e, suc-mul n k)
 
   first-flags : flags k (word (take k bs)) ≡ take k bs
-  first-flags = ap (λ (j : ℕ). flags j (word (take k bs))) (sym first-long) ∙ flags-word (take k bs)
+  first-flags = ap (λ (j : ℕ). flags j (word (take k bs))) (sym first_long) ∙ flags-word (take k bs)
 
 pub flags-words : (k n : ℕ) (bs : List Bool) → length bs ≡ n * k → flags_of k (words_of k n bs) ≡ bs
 unfolding flags_of words_of
-flags-words k zero bs e = no-places k bs e
+flags-words k zero bs e = no_places k bs e
 flags-words k (suc n) bs e =
-    ap₂ (λ (x y : List Bool). x ++ y) (first-flags k n bs e) (flags-words k n (drop k bs) (rest-long k n bs e)) ∙ take-append-drop k bs
+    ap₂ (λ (x y : List Bool). x ++ y) (first-flags k n bs e) (flags-words k n (drop k bs) (rest_long k n bs e)) ∙ take-append-drop k bs
 
 pub length-words : (k n : ℕ) (bs : List Bool) → length (words_of k n bs) ≡ n
 unfolding words_of
@@ -186,13 +186,13 @@ flag_at k (suc n) bs e b zero j h l =
 flag_at k (suc n) bs e b (suc i) j h l =
     let at : k * suc i + j ≡ k + (k * i + j) = omega (arith, mul-suc k i) in
     rw (at, take-set-le k bs (k + (k * i + j)) b (omega arith), drop-set-add k bs (k * i + j) b)
-    (ap (λ (ws : List ℕ). word (take k bs) ∷ ws) (flag_at k n (drop k bs) (rest-long k n bs e) b i j (omega arith) l))
+    (ap (λ (ws : List ℕ). word (take k bs) ∷ ws) (flag_at k n (drop k bs) (rest_long k n bs e) b i j (omega arith) l))
 
-pub occupancy-by-words : OccupancyByWords
-unfolding withFlag
-occupancy-by-words k n bs some e = record {
+pub occupancy-by_words : OccupancyByWords
+unfolding with_flag
+occupancy-by_words k n bs some e = record {
   flags = flags-words k n bs e;
-  lowest = ap lowestFree (flags-words k n bs e);
+  lowest = ap lowest_free (flags-words k n bs e);
   count = ap used (flags-words k n bs e);
   change = λ b at h.
       flag_at k n bs e b (at / k) (at % k) ((div-lt_iff_lt-mul some).1 (omega (arith, e))) (mod-lt at some)
@@ -209,23 +209,23 @@ pub used-next : (k w : ℕ) (ws : List ℕ) → used (flags_of k (w ∷ ws)) ≡
 unfolding flags_of
 used-next k w ws = used-append (flags k w) (flags_of k ws)
 
-lowest-here : (xs ys : List Bool) → lowestFree xs < length xs → lowestFree (xs ++ ys) ≡ lowestFree xs
-unfolding lowestFree
+lowest-here : (xs ys : List Bool) → lowest_free xs < length xs → lowest_free (xs ++ ys) ≡ lowest_free xs
+unfolding lowest_free
 lowest-here [] ys h = omega arith
 lowest-here (true ∷ xs) ys h = ap suc (lowest-here xs ys (omega arith))
 lowest-here (false ∷ xs) ys h = refl
 
-lowest-past : (xs ys : List Bool) → length xs ≤ lowestFree xs → lowestFree (xs ++ ys) ≡ length xs + lowestFree ys
-unfolding lowestFree
+lowest-past : (xs ys : List Bool) → length xs ≤ lowest_free xs → lowest_free (xs ++ ys) ≡ length xs + lowest_free ys
+unfolding lowest_free
 lowest-past [] ys h = omega arith
 lowest-past (true ∷ xs) ys h = omega (arith, lowest-past xs ys (omega arith))
 lowest-past (false ∷ xs) ys h = omega arith
 
 module _ (k w : ℕ) (ws : List ℕ) where
-  pub lowest-found : lowestFree (flags k w) < k → lowestFree (flags_of k (w ∷ ws)) ≡ lowestFree (flags k w)
+  pub lowest-found : lowest_free (flags k w) < k → lowest_free (flags_of k (w ∷ ws)) ≡ lowest_free (flags k w)
   unfolding flags_of
   lowest-found h = lowest-here (flags k w) (flags_of k ws) (omega (arith, length-flags k w))
 
-  pub lowest-full : k ≤ lowestFree (flags k w) → lowestFree (flags_of k (w ∷ ws)) ≡ k + lowestFree (flags_of k ws)
+  pub lowest-full : k ≤ lowest_free (flags k w) → lowest_free (flags_of k (w ∷ ws)) ≡ k + lowest_free (flags_of k ws)
   unfolding flags_of
-  lowest-full h = lowest-past (flags k w) (flags_of k ws) (omega (arith, length-flags k w)) ∙ ap (λ (n : ℕ). n + lowestFree (flags_of k ws)) (length-flags k w)
+  lowest-full h = lowest-past (flags k w) (flags_of k ws) (omega (arith, length-flags k w)) ∙ ap (λ (n : ℕ). n + lowest_free (flags_of k ws)) (length-flags k w)

@@ -6,8 +6,8 @@ ghost use Rattle.rules.specs.Limits.{limits};
 ghost use Rattle.rules.specs.Lists.{keep, any, all, has, distinct, maximum};
 ghost use Rattle.rules.specs.State.{free, occupied};
 ghost use Rattle.rules.specs.Step.{place, mark};
-ghost use Rattle.rules.specs.Sound.{isWriter, unused};
-ghost use Rattle.objects.specs.Objects.{layPlaces, isLaid, roleEpoch, placeSoundBy, numbersAt, named_at, currenciesAt, among, currencyAmong, storedIn, currencyIn, ofCurrencyIn, numbersIn};
+ghost use Rattle.rules.specs.Sound.{is_writer, unused};
+ghost use Rattle.objects.specs.Objects.{lay_places, is_laid, role_epoch, place_sound_by, numbers_at, named_at, currencies_at, among, currency_among, stored_in, currency_in, of_currency_in, numbers_in};
 // For the collection, which frees places one after another, and the reader of an image, which fills them.
 pub use occupancy::{clear_bit, set_bit};
 use rules::{BITS, LARGEST_CURRENCY, Object, PLACES, Role, WORDS};
@@ -33,7 +33,7 @@ pub struct Objects {
 
 impl Objects {
     pub fn none() -> Self
-        ensures { result ≡ layPlaces (replicate limits.places free) }
+        ensures { result ≡ lay_places (replicate limits.places free) }
     {
         let occupancy = [0u64; WORDS];
         let items = [no_object(); PLACES];
@@ -42,7 +42,7 @@ impl Objects {
 
     // The numbers in the places, 0 where one is free. Whoever looks many numbers up lends them, and copies no object.
     pub fn numbers(self) -> [u64; PLACES]
-        ensures { result ≡ numbersAt self.items }
+        ensures { result ≡ numbers_at self.items }
     {
         let mut numbers = [0u64; PLACES];
         let mut i: usize = 0;
@@ -70,7 +70,7 @@ impl Objects {
 
     // The currencies in the places.
     pub fn currencies(self) -> [u16; PLACES]
-        ensures { result ≡ currenciesAt self.items }
+        ensures { result ≡ currencies_at self.items }
     {
         let mut currencies = [0u16; PLACES];
         let mut i: usize = 0;
@@ -84,7 +84,7 @@ impl Objects {
 
     // Whether an object of this number is stored.
     pub fn is_stored(self, number: u64) -> bool
-        ensures { result ≡ storedIn self.items number }
+        ensures { result ≡ stored_in self.items number }
     {
         let numbers = self.numbers();
         is_among(&numbers, number)
@@ -92,7 +92,7 @@ impl Objects {
 
     // The currency of the stored object of this number, 0 where there is none.
     pub fn currency_of(self, number: u64) -> u16
-        ensures { result ≡ currencyIn self.items number }
+        ensures { result ≡ currency_in self.items number }
     {
         let numbers = self.numbers();
         let currencies = self.currencies();
@@ -101,7 +101,7 @@ impl Objects {
 
     // Whether every number of the list is stored.
     pub fn all_stored(self, list: &[u64]) -> bool
-        ensures { not result ≡ any (λ n. not (storedIn self.items n)) list.now }
+        ensures { not result ≡ any (λ n. not (stored_in self.items n)) list.now }
     {
         let numbers = self.numbers();
         all_among(&numbers, list)
@@ -109,7 +109,7 @@ impl Objects {
 
     // The highest number of the list that has this currency, 0 where there is none.
     pub fn highest(self, currency: u16, list: &[u64]) -> u64
-        ensures { result ≡ maximum (ofCurrencyIn self.items currency list.now) }
+        ensures { result ≡ maximum (of_currency_in self.items currency list.now) }
     {
         let numbers = self.numbers();
         let currencies = self.currencies();
@@ -129,7 +129,7 @@ impl Objects {
 
     // Whether the occupancy words are those of the places, of any value.
     pub fn is_laid(self) -> bool
-        ensures { result ≡ isLaid self }
+        ensures { result ≡ is_laid self }
     {
         let numbers = self.numbers();
         let mut k: usize = 0;
@@ -146,7 +146,7 @@ impl Objects {
 
     // Whether each place is free and all zero, or holds an object that is sound beside these epochs.
     pub fn places_sound(self, writer: u64, compactor: u64) -> bool
-        ensures { result ≡ all (placeSoundBy writer compactor) self.items }
+        ensures { result ≡ all (place_sound_by writer compactor) self.items }
     {
         let mut i: usize = 0;
         while i < PLACES {
@@ -161,7 +161,7 @@ impl Objects {
 
     // Whether no two stored objects have one number. One that is above all before it is new; any other is looked for among them.
     pub fn is_distinct(self) -> bool
-        ensures { result ≡ distinct (numbersIn self.items) }
+        ensures { result ≡ distinct (numbers_in self.items) }
     {
         let numbers = self.numbers();
         let mut highest: u64 = 0;
@@ -180,7 +180,7 @@ impl Objects {
 
     // Whether every place is taken: count of ones tells a full store.
     pub fn is_full(self) -> bool
-        requires { isLaid self ≡ true }
+        requires { is_laid self ≡ true }
         ensures { result ≡ leb limits.places (length (keep occupied self.items)) }
     {
         let words = self.occupancy;
@@ -189,8 +189,8 @@ impl Objects {
 
     // The object goes to the lowest free place.
     pub fn put(mut self, object: Object) -> Self
-        requires { (isLaid self ≡ true) × (occupied object ≡ true) × (length (keep occupied self.items) < limits.places) }
-        ensures { result ≡ layPlaces (place object self.items) }
+        requires { (is_laid self ≡ true) × (occupied object ≡ true) × (length (keep occupied self.items) < limits.places) }
+        ensures { result ≡ lay_places (place object self.items) }
     {
         let mut words = self.occupancy;
         let at = occupancy::lowest_free(&words);
@@ -202,8 +202,8 @@ impl Objects {
 
     // The objects that the list names are marked as named.
     pub fn mark(mut self, list: &[u64]) -> Self
-        requires { isLaid self ≡ true }
-        ensures { result ≡ layPlaces (map (mark list.now) self.items) }
+        requires { is_laid self ≡ true }
+        ensures { result ≡ lay_places (map (mark list.now) self.items) }
     {
         let blank = Objects::none();
         let mut items = blank.items;
@@ -293,7 +293,7 @@ pub fn all_among(numbers: &[u64], list: &[u64]) -> bool
 // The currency beside the first of these numbers that is this one; 0 where none is.
 pub fn currency_among(numbers: &[u64], currencies: &[u16], number: u64) -> u16
     requires { length numbers.now ≤ length currencies.now }
-    ensures { result ≡ currencyAmong numbers.now currencies.now number }
+    ensures { result ≡ currency_among numbers.now currencies.now number }
 {
     if number == 0 {
         return 0;
@@ -321,7 +321,7 @@ fn marked(object: Object, list: &[u64]) -> Object
 
 // A role's epoch of the writer's and the compactor's.
 pub fn epoch_of(role: Role, writer: u64, compactor: u64) -> u64
-    ensures { result ≡ roleEpoch role writer compactor }
+    ensures { result ≡ role_epoch role writer compactor }
 {
     match role {
         Role::Writer => writer,
@@ -330,7 +330,7 @@ pub fn epoch_of(role: Role, writer: u64, compactor: u64) -> u64
 }
 
 fn is_writer(role: Role) -> bool
-    ensures { result ≡ isWriter role }
+    ensures { result ≡ is_writer role }
 {
     match role {
         Role::Writer => true,
@@ -359,7 +359,7 @@ fn is_unused(object: Object) -> bool
 }
 
 fn place_sound(object: Object, writer: u64, compactor: u64) -> bool
-    ensures { result ≡ placeSoundBy writer compactor object }
+    ensures { result ≡ place_sound_by writer compactor object }
 {
     if object.number == 0 {
         return is_unused(object);

@@ -1,14 +1,14 @@
 // The occupancy words: bit i of a word is that of its place i, and the places of a word stand behind those of the words before.
 ghost use Rattle.std.specs.Prelude.{◌≡◌, true, false, map, ◌≤◌, ◌<◌, ◌*◌, length, set};
-ghost use Rattle.rules.specs.Limits.{wordCount, wordBits};
+ghost use Rattle.rules.specs.Limits.{word_count, word_bits};
 ghost use Rattle.rules.specs.Table.{nonzero};
-ghost use Rattle.objects.specs.Occupancy.{word, flags, flags_of, used, lowestFree, withFlag};
+ghost use Rattle.objects.specs.Occupancy.{word, flags, flags_of, used, lowest_free, with_flag};
 
 use rules::BITS;
 
 // The word of places with these numbers: a free one has 0.
 pub(crate) fn word_of(numbers: &[u64]) -> u64
-    requires { length numbers.now ≤ wordBits }
+    requires { length numbers.now ≤ word_bits }
     ensures { result ≡ word (map nonzero numbers.now) }
 {
     let mut word: u64 = 0;
@@ -23,15 +23,15 @@ pub(crate) fn word_of(numbers: &[u64]) -> u64
 
 // The lowest free place of a word: trailing zeros of the inverted word.
 fn lowest_in(bits: u64) -> usize
-    ensures { result ≡ lowestFree (flags wordBits bits) }
+    ensures { result ≡ lowest_free (flags word_bits bits) }
 {
     u64::trailing_zeros(!bits) as usize
 }
 
 // The lowest free place, counted across the words in order; the number of places where none is free.
 pub(crate) fn lowest_free(words: &[u64]) -> usize
-    requires { length words.now ≤ wordCount }
-    ensures { result ≡ lowestFree (flags_of wordBits words.now) }
+    requires { length words.now ≤ word_count }
+    ensures { result ≡ lowest_free (flags_of word_bits words.now) }
 {
     let mut k: usize = 0;
     while k < words.len() {
@@ -46,15 +46,15 @@ pub(crate) fn lowest_free(words: &[u64]) -> usize
 
 // How many places of a word are taken.
 fn taken_in(bits: u64) -> u32
-    ensures { result ≡ used (flags wordBits bits) }
+    ensures { result ≡ used (flags word_bits bits) }
 {
     u64::count_ones(bits)
 }
 
 // How many places are taken.
 pub(crate) fn count_taken(words: &[u64]) -> usize
-    requires { length words.now ≤ wordCount }
-    ensures { result ≡ used (flags_of wordBits words.now) }
+    requires { length words.now ≤ word_count }
+    ensures { result ≡ used (flags_of word_bits words.now) }
 {
     let mut count: usize = 0;
     let mut k: usize = 0;
@@ -67,24 +67,24 @@ pub(crate) fn count_taken(words: &[u64]) -> usize
 
 // The word with the bit of a place set.
 fn with_bit(bits: u64, at: usize) -> u64
-    requires { at < wordBits }
-    ensures { result ≡ word (set (flags wordBits bits) at true) }
+    requires { at < word_bits }
+    ensures { result ≡ word (set (flags word_bits bits) at true) }
 {
     bits | (1u64 << at)
 }
 
 // The word with the bit of a place cleared.
 fn without_bit(bits: u64, at: usize) -> u64
-    requires { at < wordBits }
-    ensures { result ≡ word (set (flags wordBits bits) at false) }
+    requires { at < word_bits }
+    ensures { result ≡ word (set (flags word_bits bits) at false) }
 {
     bits & !(1u64 << at)
 }
 
 // The bit of a place is set.
 pub fn set_bit(words: &mut [u64], at: usize)
-    requires { at < length words.old * wordBits }
-    ensures { words.new ≡ withFlag wordBits true at words.old }
+    requires { at < length words.old * word_bits }
+    ensures { words.new ≡ with_flag word_bits true at words.old }
 {
     let k = at / BITS;
     words[k] = with_bit(words[k], at % BITS);
@@ -92,8 +92,8 @@ pub fn set_bit(words: &mut [u64], at: usize)
 
 // The bit of a place is cleared.
 pub fn clear_bit(words: &mut [u64], at: usize)
-    requires { at < length words.old * wordBits }
-    ensures { words.new ≡ withFlag wordBits false at words.old }
+    requires { at < length words.old * word_bits }
+    ensures { words.new ≡ with_flag word_bits false at words.old }
 {
     let k = at / BITS;
     words[k] = without_bit(words[k], at % BITS);

@@ -14,23 +14,23 @@ use Rattle.fields.specs.declared.Next.{Next}
 use Rattle.fields.specs.declared.Next.TheVariants.{End, Torn, Record}
 use Rattle.fields.specs.Bytes.{value_of, kept64, words_of}
 use Rattle.fields.specs.Fields.{claimed, head_of, next_of}
-use Rattle.fields.proofs.Fields.{next-end, next-torn, next-whole, head_read}
-use Rattle.rules.proofs.Lists.{and_left, and_right, and_both, bool-ext}
+use Rattle.fields.proofs.Fields.{next_end, next-torn, next-whole, head_read}
+use Rattle.rules.proofs.Lists.{and_left, and_right, and_both, bool_ext}
 use Rattle.records.specs.declared.Field.{Field}
 use Rattle.records.specs.declared.Held.{Held}
-use Rattle.records.specs.Walk.{Walked, Found, Broken, listThen, numberThen, headThen, walk}
-use Rattle.records.specs.Found.{is_whole, absent, present, heldAs, held}
+use Rattle.records.specs.Walk.{Walked, Found, Broken, list_then, number_then, head_then, walk}
+use Rattle.records.specs.Found.{is_whole, absent, present, held_as, held}
 
 -- ---- a whole record
 
 -- what the reader of a trace says of bytes of that length that are one record
-abbrev pub wholeNext : ℕ → Next → Bool
-wholeNext len End = false
-wholeNext len Torn = false
-wholeNext len (Record n) = eqb n len
+abbrev pub whole_next : ℕ → Next → Bool
+whole_next len End = false
+whole_next len Torn = false
+whole_next len (Record n) = eqb n len
 
-sum-test : (k n : ℕ) → (leb 3 n && eqb k (n - 3)) ≡ eqb (3 + k) n
-sum-test k n = bool-ext (leb 3 n && eqb k (n - 3)) (eqb (3 + k) n) there back
+sum_test : (k n : ℕ) → (leb 3 n && eqb k (n - 3)) ≡ eqb (3 + k) n
+sum_test k n = bool_ext (leb 3 n && eqb k (n - 3)) (eqb (3 + k) n) there back
   where
     there : (leb 3 n && eqb k (n - 3)) ≡ true → eqb (3 + k) n ≡ true
     there e = eq-eqb (3 + k) n (omega (arith, leb-true 3 n (and_left (leb 3 n) (eqb k (n - 3)) e), eqb-true k (n - 3) (and_right (leb 3 n) (eqb k (n - 3)) e)))
@@ -38,19 +38,19 @@ sum-test k n = bool-ext (leb 3 n && eqb k (n - 3)) (eqb (3 + k) n) there back
     back : eqb (3 + k) n ≡ true → (leb 3 n && eqb k (n - 3)) ≡ true
     back e = and_both (leb 3 n) (eqb k (n - 3)) (le-leb 3 n (omega (arith, eqb-true (3 + k) n e))) (eq-eqb k (n - 3) (omega (arith, eqb-true (3 + k) n e)))
 
-pub whole-next : (bs : List ℕ) → is_whole bs ≡ wholeNext (length bs) (next_of bs)
-whole-next bs = sum-test (claimed bs) (length bs) ∙ by (leb (3 + claimed bs) (length bs)) (eqb (length bs) 0) refl refl
+pub whole_next_lem : (bs : List ℕ) → is_whole bs ≡ whole_next (length bs) (next_of bs)
+whole_next_lem bs = sum_test (claimed bs) (length bs) ∙ by (leb (3 + claimed bs) (length bs)) (eqb (length bs) 0) refl refl
   where
-    by : (fits empty : Bool) → leb (3 + claimed bs) (length bs) ≡ fits → eqb (length bs) 0 ≡ empty → eqb (3 + claimed bs) (length bs) ≡ wholeNext (length bs) (next_of bs)
+    by : (fits empty : Bool) → leb (3 + claimed bs) (length bs) ≡ fits → eqb (length bs) 0 ≡ empty → eqb (3 + claimed bs) (length bs) ≡ whole_next (length bs) (next_of bs)
     by true empty e z = rw (next-whole bs (leb-true (3 + claimed bs) (length bs) e))
-    by false true e z = rw (next-end bs (eqb-true (length bs) 0 z)) (ne_eqb (3 + claimed bs) (length bs) (omega (arith, eqb-true (length bs) 0 z)))
+    by false true e z = rw (next_end bs (eqb-true (length bs) 0 z)) (ne_eqb (3 + claimed bs) (length bs) (omega (arith, eqb-true (length bs) 0 z)))
     by false false e z =
         let short = leb-false (3 + claimed bs) (length bs) e in
         rw (next-torn bs (omega (arith, eqb-false (length bs) 0 z)) short) (ne_eqb (3 + claimed bs) (length bs) (omega arith))
 
 -- the same behind the first bytes
 pub whole-behind : (a : ℕ) (bs : List ℕ) → a ≤ length bs → is_whole (drop a bs) ≡ eqb (a + 3 + claimed (drop a bs)) (length bs)
-whole-behind a bs h = sum-test (claimed (drop a bs)) (length (drop a bs)) ∙ bool-ext (eqb (3 + claimed (drop a bs)) (length (drop a bs))) (eqb (a + 3 + claimed (drop a bs)) (length bs)) there back
+whole-behind a bs h = sum_test (claimed (drop a bs)) (length (drop a bs)) ∙ bool_ext (eqb (3 + claimed (drop a bs)) (length (drop a bs))) (eqb (a + 3 + claimed (drop a bs)) (length bs)) there back
   where
     there : eqb (3 + claimed (drop a bs)) (length (drop a bs)) ≡ true → eqb (a + 3 + claimed (drop a bs)) (length bs) ≡ true
     there e = eq-eqb (a + 3 + claimed (drop a bs)) (length bs) (omega (arith, eqb-true (3 + claimed (drop a bs)) (length (drop a bs)) e, length-drop a bs))
@@ -68,21 +68,21 @@ unfoldable pub push : Bool → ℕ → List ℕ → Walked → Walked
 push list n l Broken = Broken
 push list n l (Found v rest) = Found (n ∷ v) (cond list l rest)
 
-push-list : (l : List ℕ) (w : Walked) → listThen l w ≡ push true 0 l w
+push-list : (l : List ℕ) (w : Walked) → list_then l w ≡ push true 0 l w
 unfolding push
 push-list l Broken = refl
 push-list l (Found v rest) = refl
 
-push-number : (n : ℕ) (l : List ℕ) (w : Walked) → numberThen n w ≡ push false n l w
+push-number : (n : ℕ) (l : List ℕ) (w : Walked) → number_then n w ≡ push false n l w
 unfolding push
 push-number n l Broken = refl
 push-number n l (Found v rest) = refl
 
 module _ (f : Field) (s : List ℕ) where
-  abbrev heldBy : Bool → Bool → Bool → ℕ → Held
-  heldBy list even same n = cond list (cond even (present n 0) absent) (cond same (present n (kept64 (value_of (take n (drop 3 s))))) absent)
+  abbrev held_by : Bool → Bool → Bool → ℕ → Held
+  held_by list even same n = cond list (cond even (present n 0) absent) (cond same (present n (kept64 (value_of (take n (drop 3 s))))) absent)
 
-  room_by : (list even same : Bool) (n : ℕ) → 3 + n ≤ length s → (heldBy list even same n).whole ≡ true → 3 + (heldBy list even same n).len ≤ length s
+  room_by : (list even same : Bool) (n : ℕ) → 3 + n ≤ length s → (held_by list even same n).whole ≡ true → 3 + (held_by list even same n).len ≤ length s
   room_by true true same n h e = h
   room_by true false same n h e = absurd (false≢true e)
   room_by false even true n h e = h
@@ -93,7 +93,7 @@ module _ (f : Field) (s : List ℕ) where
   unfolding held
   held-room = by (head_of f.tag s) refl
     where
-      by : (d : Head) → head_of f.tag s ≡ d → (heldAs f s d).whole ≡ true → 3 + (heldAs f s d).len ≤ length s
+      by : (d : Head) → head_of f.tag s ≡ d → (held_as f s d).whole ≡ true → 3 + (held_as f s d).len ≤ length s
       by Bad e h = absurd (false≢true h)
       by (Holds n) e h = room_by (eqb f.width 0) (eqb (n % 8) 0) (eqb n f.width) n (head_read f.tag n s e).2 h
 
@@ -102,9 +102,9 @@ module _ (f : Field) (s : List ℕ) where
     after list h = cond h.whole (push list h.number (words_of (h.len / 8) (drop 3 s)) (walk fs (drop (3 + h.len) s))) Broken
 
     after-by : (list even same : Bool) (n : ℕ)
-        → cond list (cond even (listThen (words_of (n / 8) (drop 3 s)) (walk fs (drop (3 + n) s))) Broken)
-        (cond same (numberThen (kept64 (value_of (take n (drop 3 s)))) (walk fs (drop (3 + n) s))) Broken)
-        ≡ after list (heldBy list even same n)
+        → cond list (cond even (list_then (words_of (n / 8) (drop 3 s)) (walk fs (drop (3 + n) s))) Broken)
+        (cond same (number_then (kept64 (value_of (take n (drop 3 s)))) (walk fs (drop (3 + n) s))) Broken)
+        ≡ after list (held_by list even same n)
     after-by true true same n = push-list _ _
     after-by true false same n = refl
     after-by false even true n = push-number _ _ _
@@ -114,6 +114,6 @@ module _ (f : Field) (s : List ℕ) where
     unfolding walk held
     walk-held = by (head_of f.tag s) refl
       where
-        by : (d : Head) → head_of f.tag s ≡ d → headThen f s d (walk fs (drop (3 + claimed s) s)) ≡ after (eqb f.width 0) (heldAs f s d)
+        by : (d : Head) → head_of f.tag s ≡ d → head_then f s d (walk fs (drop (3 + claimed s) s)) ≡ after (eqb f.width 0) (held_as f s d)
         by Bad e = refl
         by (Holds n) e = rw (head_read f.tag n s e).1 (after-by (eqb f.width 0) (eqb (n % 8) 0) (eqb n f.width) n)

@@ -12,9 +12,9 @@ use borrow.Author.Tests.{ne_eqb, eqb-true}
 use Rattle.fields.specs.Bytes.{words_of}
 use Rattle.records.specs.declared.Field.{Field}
 use Rattle.records.specs.declared.Place.{Place}
-use Rattle.records.specs.Format.{mostFields}
+use Rattle.records.specs.Format.{most_fields}
 use Rattle.records.specs.Walk.{Walked, Found, Broken, walk}
-use Rattle.records.specs.Found.{held, firstList, inNumbers, placedAll}
+use Rattle.records.specs.Found.{held, first_list, in_numbers, placed_all}
 use Rattle.records.proofs.Fronts.{push, walk-held}
 
 -- the numbers and the list that were found in the bytes, before what is found in the rest
@@ -42,7 +42,7 @@ joined-push bs v p list n a k (Found rest l) h = by list (eqb p.at 0) refl
 -- a field that is there
 pub joined-field : (bs v : List ℕ) (p : Place) (f : Field) (fs : List Field) (at : ℕ) → (held f (drop at bs)).whole ≡ true
     → joined bs v p (walk (f ∷ fs) (drop at bs))
-    ≡ joined bs (v ++ (held f (drop at bs)).number ∷ []) (firstList p f.width (at + 3) (held f (drop at bs)).len) (walk fs (drop (at + 3 + (held f (drop at bs)).len) bs))
+    ≡ joined bs (v ++ (held f (drop at bs)).number ∷ []) (first_list p f.width (at + 3) (held f (drop at bs)).len) (walk fs (drop (at + 3 + (held f (drop at bs)).len) bs))
 joined-field bs v p f fs at whole =
     let h = held f (drop at bs) in
     let sum : at + (3 + h.len) ≡ at + 3 + h.len = omega arith in
@@ -65,20 +65,20 @@ walk_none = refl
 
 -- ---- the numbers, with zeros behind those that were found
 
-pub zeros-next : (l : List ℕ) (i n : ℕ) → i < mostFields → drop i l ≡ replicate (mostFields - i) 0 → drop (i + 1) (set l i n) ≡ replicate (mostFields - (i + 1)) 0
-zeros-next l i n h e =
-    let one : mostFields - i ≡ suc (mostFields - (i + 1)) = omega arith in
+pub zeros_next : (l : List ℕ) (i n : ℕ) → i < most_fields → drop i l ≡ replicate (most_fields - i) 0 → drop (i + 1) (set l i n) ≡ replicate (most_fields - (i + 1)) 0
+zeros_next l i n h e =
+    let one : most_fields - i ≡ suc (most_fields - (i + 1)) = omega arith in
     drop-set-lt (i + 1) l i n (omega arith) ∙ sym (drop-drop 1 i l) ∙ rw (e, one)
 
-pub joined_end : (bs l : List ℕ) (p : Place) (i : ℕ) → length l ≡ mostFields → i ≤ mostFields → drop i l ≡ replicate (mostFields - i) 0 → (p.at ≡ 0 → p.count ≡ 0)
-    → Found l (words_of p.count (drop p.at bs)) ≡ placedAll (joined bs (take i l) p (Found [] []))
+pub joined_end : (bs l : List ℕ) (p : Place) (i : ℕ) → length l ≡ most_fields → i ≤ most_fields → drop i l ≡ replicate (most_fields - i) 0 → (p.at ≡ 0 → p.count ≡ 0)
+    → Found l (words_of p.count (drop p.at bs)) ≡ placed_all (joined bs (take i l) p (Found [] []))
 unfolding words_of
 joined_end bs l p i long h zeros none = ap₂ Found numbers (list (eqb p.at 0) refl)
   where
     size : length (take i l) ≡ i
     size = length-take-le i l (omega arith)
 
-    numbers : l ≡ inNumbers (take i l ++ [])
+    numbers : l ≡ in_numbers (take i l ++ [])
     numbers = rw (append-nil, size, ← zeros) (sym (take-append-drop i l))
 
     list : (b : Bool) → eqb p.at 0 ≡ b → words_of p.count (drop p.at bs) ≡ cond b [] (words_of p.count (drop p.at bs))
@@ -88,14 +88,14 @@ joined_end bs l p i long h zeros none = ap₂ Found numbers (list (eqb p.at 0) r
 -- ---- the list's place
 
 module _ (p : Place) (width at len : ℕ) where
-  pub first-within : (m : ℕ) → p.at + 8 * p.count ≤ m → at + len ≤ m → (firstList p width at len).at + 8 * (firstList p width at len).count ≤ m
+  pub first-within : (m : ℕ) → p.at + 8 * p.count ≤ m → at + len ≤ m → (first_list p width at len).at + 8 * (first_list p width at len).count ≤ m
   first-within m old new = by (eqb width 0 && eqb p.at 0)
     where
       by : (first : Bool) → (cond {A = Place} first (record { at = at; count = len / 8 }) p).at + 8 * (cond {A = Place} first (record { at = at; count = len / 8 }) p).count ≤ m
       by true = omega arith
       by false = old
 
-  pub first-none : 0 < at → (p.at ≡ 0 → p.count ≡ 0) → (firstList p width at len).at ≡ 0 → (firstList p width at len).count ≡ 0
+  pub first-none : 0 < at → (p.at ≡ 0 → p.count ≡ 0) → (first_list p width at len).at ≡ 0 → (first_list p width at len).count ≡ 0
   first-none some old = by (eqb width 0 && eqb p.at 0)
     where
       by : (first : Bool) → (cond {A = Place} first (record { at = at; count = len / 8 }) p).at ≡ 0 → (cond {A = Place} first (record { at = at; count = len / 8 }) p).count ≡ 0

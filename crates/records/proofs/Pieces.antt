@@ -75,16 +75,16 @@ filled tag v out o room p =
 -- ---- fields one behind the other
 
 module _ (l : List ℕ) where
-  pub bytes-cons : (f : Field) (fs : List Field) → bytes_of (f ∷ fs) l ≡ field f.tag (content l f) ++ bytes_of fs l
+  pub bytes_cons : (f : Field) (fs : List Field) → bytes_of (f ∷ fs) l ≡ field f.tag (content l f) ++ bytes_of fs l
   unfolding bytes_of
-  bytes-cons f fs = refl
+  bytes_cons f fs = refl
 
   pub bytes-none : bytes_of [] l ≡ []
   unfolding bytes_of
   bytes-none = refl
 
-  pub length-cons : (f : Field) (fs : List Field) → length (bytes_of (f ∷ fs) l) ≡ 3 + length (content l f) + length (bytes_of fs l)
-  length-cons f fs = ap length (bytes-cons f fs) ∙ length-append (field f.tag (content l f)) (bytes_of fs l) ∙ ap (λ (n : ℕ). n + length (bytes_of fs l)) (length-field f.tag (content l f))
+  pub length_cons : (f : Field) (fs : List Field) → length (bytes_of (f ∷ fs) l) ≡ 3 + length (content l f) + length (bytes_of fs l)
+  length_cons f fs = ap length (bytes_cons f fs) ∙ length-append (field f.tag (content l f)) (bytes_of fs l) ∙ ap (λ (n : ℕ). n + length (bytes_of fs l)) (length-field f.tag (content l f))
 
   -- a narrow field beside a list that is not too long
   pub content-short : (f : Field) → is_narrow f ≡ true → length l ≤ limits.places → length (content l f) ≤ 8 * limits.places
@@ -96,12 +96,12 @@ module _ (l : List ℕ) where
 
 -- ---- a record at the start of a buffer
 
-pub record-full : (tag : ℕ) (v out : List ℕ) → length out < 3 + length v → writing true (field tag v) out ≡ record { answer = Full; buffer = out }
-record-full tag v out h = rw (lt-ltb (length out) (length (field tag v)) (omega (arith, length-field tag v)))
+pub record_full : (tag : ℕ) (v out : List ℕ) → length out < 3 + length v → writing true (field tag v) out ≡ record { answer = Full; buffer = out }
+record_full tag v out h = rw (lt-ltb (length out) (length (field tag v)) (omega (arith, length-field tag v)))
 
-pub record-put : (tag n : ℕ) (v out o w : List ℕ) → n ≡ length v → 3 + n ≤ length out → o ≡ over (tag ∷ be 2 n) out → w ≡ v
+pub record_put : (tag n : ℕ) (v out o w : List ℕ) → n ≡ length v → 3 + n ≤ length out → o ≡ over (tag ∷ be 2 n) out → w ≡ v
     → writing true (field tag v) out ≡ record { answer = Written (3 + n); buffer = take 3 o ++ (w ++ drop (3 + n - 3) (drop 3 o)) }
-record-put tag n v out o w e room p q =
+record_put tag n v out o w e room p q =
     let rest : 3 + n - 3 ≡ n = omega arith in
     let long : length (field tag v) ≡ 3 + n = omega (arith, length-field tag v) in
     let put : over (field tag v) out ≡ take 3 o ++ (w ++ drop (3 + n - 3) (drop 3 o)) = rw (rest, q) (sym (field_put tag n v out o e room p)) in

@@ -14,8 +14,8 @@ use Rattle.rules.proofs.Lists.{and_left, and_right}
 use Rattle.rules.proofs.Typed.{length_none}
 
 module _ {A : Type 0} where
-  pub rest-cons : (l : List A) (n i : ℕ) (d : A) → i < n → n ≤ length l → drop i (take n l) ≡ get_or l i d ∷ drop (i + 1) (take n l)
-  rest-cons l n i d h k = rw (add-one, drop-cons (take n l) i d (simp length-take (omega arith)), get_or-take n l i d h)
+  pub rest_cons : (l : List A) (n i : ℕ) (d : A) → i < n → n ≤ length l → drop i (take n l) ≡ get_or l i d ∷ drop (i + 1) (take n l)
+  rest_cons l n i d h k = rw (add-one, drop-cons (take n l) i d (simp length-take (omega arith)), get_or-take n l i d h)
 
   pub rest-none : (l : List A) (n i : ℕ) → n ≤ i → drop i (take n l) ≡ []
   rest-none l n i h = drop_of_length-le (take n l) {i = i} (simp length-take (omega arith))
@@ -35,15 +35,15 @@ module _ {A : Type 0} where
   all-at p (x ∷ xs) (suc i) d e h = all-at p xs i d (and_right (p x) (all p xs) e) (omega arith)
 
 -- past the zeros there are zeros too
-pub zeros-get : (k i : ℕ) → ◌≡◌ {A = ℕ} (get_or (replicate k 0) i 0) 0
-zeros-get zero i = refl
-zeros-get (suc k) zero = refl
-zeros-get (suc k) (suc i) = zeros-get k i
+pub zeros_get : (k i : ℕ) → ◌≡◌ {A = ℕ} (get_or (replicate k 0) i 0) 0
+zeros_get zero i = refl
+zeros_get (suc k) zero = refl
+zeros_get (suc k) (suc i) = zeros_get k i
 
-pub padded-get : (v : List ℕ) (k i : ℕ) → get_or (v ++ replicate k 0) i 0 ≡ get_or v i 0
-padded-get [] k i = zeros-get k i
-padded-get (n ∷ v) k zero = refl
-padded-get (n ∷ v) k (suc i) = padded-get v k i
+pub padded_get : (v : List ℕ) (k i : ℕ) → get_or (v ++ replicate k 0) i 0 ≡ get_or v i 0
+padded_get [] k i = zeros_get k i
+padded_get (n ∷ v) k zero = refl
+padded_get (n ∷ v) k (suc i) = padded_get v k i
 
 pub some-list : (l : List ℕ) → 0 < length l → none l ≡ false
 some-list l h = sym (length_none l) ∙ ne_eqb (length l) 0 (omega arith)

@@ -14,43 +14,43 @@ use Rattle.records.specs.declared.Field.{Field}
 use Rattle.records.specs.declared.Fields.{Fields}
 use Rattle.records.specs.declared.KindRead.{KindRead}
 use Rattle.records.specs.declared.KindRead.TheVariants.{Known, Unknown}
-use Rattle.records.specs.Format.{mostFields, inner, recordOf, inPlaces}
-use Rattle.records.specs.Found.{fieldsIn, Placed, inNumbers, placedAll}
+use Rattle.records.specs.Format.{most_fields, inner, record_of, in_places}
+use Rattle.records.specs.Found.{fields_in, Placed, in_numbers, placed_all}
 use Rattle.records.specs.Walk.{Walked, Found as FieldsFound, Broken}
-use Rattle.records.specs.Steps.{fields_of, kindFrom, requestFrom, requestOfWalk}
+use Rattle.records.specs.Steps.{fields_of, kind_from, request_from, request_of_walk}
 use Rattle.records.specs.Writing.{Writing, writing}
-use Rattle.records.proofs.Places.{padded-get}
+use Rattle.records.proofs.Places.{padded_get}
 
-pub fields_in : (fs : List Field) → fieldsIn (inPlaces fs) ≡ fs
-fields_in fs = take-append_seam fs (replicate (mostFields - length fs) (inner 0 0 0))
+pub fields_in_lem : (fs : List Field) → fields_in (in_places fs) ≡ fs
+fields_in_lem fs = take-append_seam fs (replicate (most_fields - length fs) (inner 0 0 0))
 
 -- what is written of fields in their places
-pub record-written : (tag k : ℕ) (p : Fields) (fs : List Field) (l out : List ℕ) (w : Writing) → k ≡ tag → p ≡ inPlaces fs → writing true (recordOf k (fieldsIn p) l) out ≡ w → writing true (recordOf tag fs l) out ≡ w
-record-written tag k p fs l out w e placed h = ap₂ (λ (t : ℕ) (gs : List Field). writing true (recordOf t gs l) out) (sym e) (sym (ap fieldsIn placed ∙ fields_in fs)) ∙ h
+pub record_written : (tag k : ℕ) (p : Fields) (fs : List Field) (l out : List ℕ) (w : Writing) → k ≡ tag → p ≡ in_places fs → writing true (record_of k (fields_in p) l) out ≡ w → writing true (record_of tag fs l) out ≡ w
+record_written tag k p fs l out w e placed h = ap₂ (λ (t : ℕ) (gs : List Field). writing true (record_of t gs l) out) (sym e) (sym (ap fields_in placed ∙ fields_in_lem fs)) ∙ h
 
-pub step-placed : (t : ℕ) (k : Kind) → Placed (inPlaces (fields_of t k))
+pub step_placed : (t : ℕ) (k : Kind) → Placed (in_places (fields_of t k))
 unfolding all
-step-placed t (FENCE r n) = record { places = refl; within = lit≤ tt; narrow = refl }
-step-placed t (PUT r e n c) = record { places = refl; within = lit≤ tt; narrow = refl }
-step-placed t (COMMIT e n) = record { places = refl; within = lit≤ tt; narrow = refl }
-step-placed t (COMPACT e n o) = record { places = refl; within = lit≤ tt; narrow = refl }
-step-placed t (HOLD x m e) = record { places = refl; within = lit≤ tt; narrow = refl }
-step-placed t (RENEW x e) = record { places = refl; within = lit≤ tt; narrow = refl }
-step-placed t (RELEASE x) = record { places = refl; within = lit≤ tt; narrow = refl }
-step-placed t (LIST x) = record { places = refl; within = lit≤ tt; narrow = refl }
-step-placed t (LOOK c x) = record { places = refl; within = lit≤ tt; narrow = refl }
-step-placed t COLLECT = record { places = refl; within = lit≤ tt; narrow = refl }
+step_placed t (FENCE r n) = record { places = refl; within = lit≤ tt; narrow = refl }
+step_placed t (PUT r e n c) = record { places = refl; within = lit≤ tt; narrow = refl }
+step_placed t (COMMIT e n) = record { places = refl; within = lit≤ tt; narrow = refl }
+step_placed t (COMPACT e n o) = record { places = refl; within = lit≤ tt; narrow = refl }
+step_placed t (HOLD x m e) = record { places = refl; within = lit≤ tt; narrow = refl }
+step_placed t (RENEW x e) = record { places = refl; within = lit≤ tt; narrow = refl }
+step_placed t (RELEASE x) = record { places = refl; within = lit≤ tt; narrow = refl }
+step_placed t (LIST x) = record { places = refl; within = lit≤ tt; narrow = refl }
+step_placed t (LOOK c x) = record { places = refl; within = lit≤ tt; narrow = refl }
+step_placed t COLLECT = record { places = refl; within = lit≤ tt; narrow = refl }
 
 -- ---- numbers in their places say what they say
 
-kind-placed : (tag : ℕ) (v : List ℕ) (k : ℕ) → kindFrom tag (v ++ replicate k 0) ≡ kindFrom tag v
-unfolding kindFrom
-kind-placed tag v k = simp padded-get
+kind_placed : (tag : ℕ) (v : List ℕ) (k : ℕ) → kind_from tag (v ++ replicate k 0) ≡ kind_from tag v
+unfolding kind_from
+kind_placed tag v k = simp padded_get
 
-pub request-placed : (tag : ℕ) (w : Walked) → requestOfWalk tag (placedAll w) ≡ requestOfWalk tag w
-request-placed tag Broken = refl
-request-placed tag (FieldsFound v l) = rw (kind-placed tag v (mostFields - length v)) (by (kindFrom tag v))
+pub request_placed : (tag : ℕ) (w : Walked) → request_of_walk tag (placed_all w) ≡ request_of_walk tag w
+request_placed tag Broken = refl
+request_placed tag (FieldsFound v l) = rw (kind_placed tag v (most_fields - length v)) (by (kind_from tag v))
   where
-    by : (k : KindRead) → requestFrom (inNumbers v) l k ≡ requestFrom v l k
+    by : (k : KindRead) → request_from (in_numbers v) l k ≡ request_from v l k
     by Unknown = refl
-    by (Known k) = rw (padded-get v (mostFields - length v) 0)
+    by (Known k) = rw (padded_get v (most_fields - length v) 0)

@@ -20,12 +20,12 @@ code n = inner 0x00 1 n
 abbrev pub time : ℕ → Field
 time t = inner 0x01 8 t
 
-abbrev pub roleCode : Role → ℕ
-roleCode Writer = 0
-roleCode Compactor = 1
+abbrev pub role_code : Role → ℕ
+role_code Writer = 0
+role_code Compactor = 1
 
 abbrev pub role : Role → Field
-role r = inner 0x02 1 (roleCode r)
+role r = inner 0x02 1 (role_code r)
 
 abbrev pub epoch : ℕ → Field
 epoch e = inner 0x03 8 e
@@ -61,13 +61,13 @@ bytes_of [] l = []
 bytes_of (f ∷ fs) l = field f.tag (content l f) ++ bytes_of fs l
 
 -- a record: "a field whose value holds its inner fields"
-abbrev pub recordOf : ℕ → List Field → List ℕ → List ℕ
-recordOf tag fs l = field tag (bytes_of fs l)
+abbrev pub record_of : ℕ → List Field → List ℕ → List ℕ
+record_of tag fs l = field tag (bytes_of fs l)
 
 -- how many inner fields a record has at most
-abbrev pub mostFields : ℕ
-mostFields = 6
+abbrev pub most_fields : ℕ
+most_fields = 6
 
 -- fields in their places
-abbrev pub inPlaces : List Field → Fields
-inPlaces fs = record { count = length fs; items = fs ++ replicate (mostFields - length fs) (inner 0 0 0) }
+abbrev pub in_places : List Field → Fields
+in_places fs = record { count = length fs; items = fs ++ replicate (most_fields - length fs) (inner 0 0 0) }

@@ -12,12 +12,12 @@ use Rattle.records.specs.declared.Fields.{Fields}
 use Rattle.records.specs.declared.Held.{Held}
 use Rattle.records.specs.declared.Place.{Place}
 use Rattle.records.specs.declared.Walk.{Walk}
-use Rattle.records.specs.Format.{mostFields}
+use Rattle.records.specs.Format.{most_fields}
 use Rattle.records.specs.Walk.{Walked, Found, Broken}
 
 -- the fields that stand in these places
-abbrev pub fieldsIn : Fields → List Field
-fieldsIn p = take p.count p.items
+abbrev pub fields_in : Fields → List Field
+fields_in p = take p.count p.items
 
 -- a number has at most eight bytes
 abbrev pub is_narrow : Field → Bool
@@ -25,8 +25,8 @@ is_narrow f = leb f.width 8
 
 -- as many places as a record has fields at most, and no more fields
 pub record Placed (p : Fields) : Type 0 where
-  pub places : length p.items ≡ mostFields
-  pub within : p.count ≤ mostFields
+  pub places : length p.items ≡ most_fields
+  pub within : p.count ≤ most_fields
   pub narrow : all is_narrow p.items ≡ true
 
 -- bytes that are one field and nothing behind it
@@ -40,32 +40,32 @@ absent = record { whole = false; len = 0; number = 0 }
 abbrev pub present : ℕ → ℕ → Held
 present n x = record { whole = true; len = n; number = x }
 
-abbrev pub heldAs : Field → List ℕ → Head → Held
-heldAs f bs Bad = absent
-heldAs f bs (Holds n) =
+abbrev pub held_as : Field → List ℕ → Head → Held
+held_as f bs Bad = absent
+held_as f bs (Holds n) =
     cond (eqb f.width 0)
     (cond (eqb (n % 8) 0) (present n 0) absent)
     (cond (eqb n f.width) (present n (kept64 (value_of (take n (drop 3 bs))))) absent)
 
 unfoldable pub held : Field → List ℕ → Held
-held f bs = heldAs f bs (head_of f.tag bs)
+held f bs = held_as f bs (head_of f.tag bs)
 
 -- where the first list stands, and how many numbers it has; a place at 0 is none
-abbrev pub firstList : Place → ℕ → ℕ → ℕ → Place
-firstList p width at len = cond (eqb width 0 && eqb p.at 0) (record { at = at; count = len / 8 }) p
+abbrev pub first_list : Place → ℕ → ℕ → ℕ → Place
+first_list p width at len = cond (eqb width 0 && eqb p.at 0) (record { at = at; count = len / 8 }) p
 
 -- what a walk found in these bytes
-abbrev pub foundBy : Walk → List ℕ → Walked
-foundBy w bs = cond w.whole (Found w.numbers (words_of w.count (drop w.list bs))) Broken
+abbrev pub found_by : Walk → List ℕ → Walked
+found_by w bs = cond w.whole (Found w.numbers (words_of w.count (drop w.list bs))) Broken
 
 -- what stands where the bytes are not just the fields
-abbrev pub brokenWalk : Walk
-brokenWalk = record { whole = false; numbers = replicate mostFields 0; list = 0; count = 0 }
+abbrev pub broken_walk : Walk
+broken_walk = record { whole = false; numbers = replicate most_fields 0; list = 0; count = 0 }
 
 -- the numbers in as many places as a record has fields at most, the rest 0
-abbrev pub inNumbers : List ℕ → List ℕ
-inNumbers v = v ++ replicate (mostFields - length v) 0
+abbrev pub in_numbers : List ℕ → List ℕ
+in_numbers v = v ++ replicate (most_fields - length v) 0
 
-abbrev pub placedAll : Walked → Walked
-placedAll Broken = Broken
-placedAll (Found v l) = Found (inNumbers v) l
+abbrev pub placed_all : Walked → Walked
+placed_all Broken = Broken
+placed_all (Found v l) = Found (in_numbers v) l

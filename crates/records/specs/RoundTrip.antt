@@ -4,10 +4,10 @@ use Rattle.std.specs.Prelude.{◌≡◌, Bool, true, ◌&&◌, List, ℕ, ◌^�
 use Rattle.rules.specs.declared.Kind.{Kind}
 use Rattle.rules.specs.Lists.{all}
 use Rattle.rules.specs.Limits.{limits}
-use Rattle.rules.specs.Table.{wellFormed}
+use Rattle.rules.specs.Table.{well_formed}
 use Rattle.rules.specs.Request.{Asked, Unreadable}
 use Rattle.records.specs.declared.Field.{Field}
-use Rattle.records.specs.Steps.{fields_of, encodeStep, longestStep, decodeStep}
+use Rattle.records.specs.Steps.{fields_of, encode_step, longest_step, decode_step}
 
 -- a field's number fits its width, and a list's numbers fit 64 bits
 abbrev pub fits : Field → Bool
@@ -21,13 +21,13 @@ are_bytes bs = all (λ b. ltb b 256) bs
 
 pub record StepRoundTrip : Type 0 where
   -- reading what was written gives the step
-  pub readsWritten : (t : ℕ) (k : Kind) (l : List ℕ) → wellFormed limits t k l ≡ true → all_fit (fields_of t k) l ≡ true → decodeStep (encodeStep t k l) ≡ Asked t k l
+  pub reads_written : (t : ℕ) (k : Kind) (l : List ℕ) → well_formed limits t k l ≡ true → all_fit (fields_of t k) l ≡ true → decode_step (encode_step t k l) ≡ Asked t k l
   -- what was read is well formed, and writing it gives the bytes
-  pub writesRead : (bs : List ℕ) (t : ℕ) (k : Kind) (l : List ℕ) → are_bytes bs ≡ true → decodeStep bs ≡ Asked t k l
-      → (wellFormed limits t k l ≡ true) × (all_fit (fields_of t k) l ≡ true) × (encodeStep t k l ≡ bs)
+  pub writes_read : (bs : List ℕ) (t : ℕ) (k : Kind) (l : List ℕ) → are_bytes bs ≡ true → decode_step bs ≡ Asked t k l
+      → (well_formed limits t k l ≡ true) × (all_fit (fields_of t k) l ≡ true) × (encode_step t k l ≡ bs)
   -- bytes that no step is written as are refused
-  pub refuses : (bs : List ℕ) → are_bytes bs ≡ true → ((t : ℕ) (k : Kind) (l : List ℕ) → wellFormed limits t k l ≡ true → all_fit (fields_of t k) l ≡ true → encodeStep t k l ≡ bs → ⊥)
-      → decodeStep bs ≡ Unreadable
+  pub refuses : (bs : List ℕ) → are_bytes bs ≡ true → ((t : ℕ) (k : Kind) (l : List ℕ) → well_formed limits t k l ≡ true → all_fit (fields_of t k) l ≡ true → encode_step t k l ≡ bs → ⊥)
+      → decode_step bs ≡ Unreadable
   -- no step's record is longer than a COMMIT's with all the names of a manifest
-  pub longest : (t : ℕ) (k : Kind) (l : List ℕ) → wellFormed limits t k l ≡ true → length (encodeStep t k l) ≤ longestStep
-  pub longestIs : longestStep ≡ 551
+  pub longest : (t : ℕ) (k : Kind) (l : List ℕ) → well_formed limits t k l ≡ true → length (encode_step t k l) ≤ longest_step
+  pub longest_is : longest_step ≡ 551

@@ -8,27 +8,27 @@ use Rattle.rules.specs.declared.Kind.{Kind}
 use Rattle.rules.specs.declared.Kind.TheVariants.{Fence as FENCE, Put as PUT, Commit as COMMIT, Compact as COMPACT, Hold as HOLD, Renew as RENEW, Release as RELEASE, List as LIST, Look as LOOK, Collect as COLLECT}
 use Rattle.rules.specs.Limits.{limits}
 use Rattle.rules.specs.Request.{Request, Asked, Unreadable}
-use Rattle.rules.specs.Typed.{canSay, nameList}
+use Rattle.rules.specs.Typed.{can_say, name_list}
 use Rattle.records.specs.declared.Field.{Field}
 use Rattle.records.specs.declared.KindRead.{KindRead}
 use Rattle.records.specs.declared.KindRead.TheVariants.{Known, Unknown}
 use Rattle.records.specs.declared.Reading.TheVariants.{Read, Malformed}
 use Rattle.records.specs.declared.StepRead.{StepRead}
-use Rattle.records.specs.Format.{time, role, epoch, slot, object, currency, list, hold, manifest, expiry, recordOf, mostFields}
+use Rattle.records.specs.Format.{time, role, epoch, slot, object, currency, list, hold, manifest, expiry, record_of, most_fields}
 use Rattle.records.specs.Walk.{Walked, Found, Broken, walk}
 
 -- "Outer tags in the order of the list above: FENCE 10, PUT 11, COMMIT 12, COMPACT 13, HOLD 14, RENEW 15, RELEASE 16, LIST 17, LOOK 18, COLLECT 19 (all hexadecimal)."
-abbrev pub outerTag : Kind → ℕ
-outerTag (FENCE r n) = 0x10
-outerTag (PUT r e n c) = 0x11
-outerTag (COMMIT e n) = 0x12
-outerTag (COMPACT e n o) = 0x13
-outerTag (HOLD x m e) = 0x14
-outerTag (RENEW x e) = 0x15
-outerTag (RELEASE x) = 0x16
-outerTag (LIST x) = 0x17
-outerTag (LOOK c x) = 0x18
-outerTag COLLECT = 0x19
+abbrev pub outer_tag : Kind → ℕ
+outer_tag (FENCE r n) = 0x10
+outer_tag (PUT r e n c) = 0x11
+outer_tag (COMMIT e n) = 0x12
+outer_tag (COMPACT e n o) = 0x13
+outer_tag (HOLD x m e) = 0x14
+outer_tag (RENEW x e) = 0x15
+outer_tag (RELEASE x) = 0x16
+outer_tag (LIST x) = 0x17
+outer_tag (LOOK c x) = 0x18
+outer_tag COLLECT = 0x19
 
 -- the inner fields of each kind, "in rising tag order. Time first."
 abbrev pub fields_of : ℕ → Kind → List Field
@@ -44,23 +44,23 @@ fields_of t (LOOK c x) = time t ∷ currency c ∷ hold x ∷ []
 fields_of t COLLECT = time t ∷ []
 
 -- the record of a step
-abbrev pub encodeStep : ℕ → Kind → List ℕ → List ℕ
-encodeStep t k l = recordOf (outerTag k) (fields_of t k) l
+abbrev pub encode_step : ℕ → Kind → List ℕ → List ℕ
+encode_step t k l = record_of (outer_tag k) (fields_of t k) l
 
 -- the bytes of a COMMIT with as many names as a manifest has: three for the tag and length of the record and of each field, eight for a number
-abbrev pub longestStep : ℕ
-longestStep = 3 + 3 * (3 + 8) + (3 + 8 * limits.names)
+abbrev pub longest_step : ℕ
+longest_step = 3 + 3 * (3 + 8) + (3 + 8 * limits.names)
 
 -- The reader
 
-abbrev pub withRole : ℕ → (Role → Kind) → KindRead
-withRole n k = cond (eqb n 0) (Known (k Writer)) (cond (eqb n 1) (Known (k Compactor)) Unknown)
+abbrev pub with_role : ℕ → (Role → Kind) → KindRead
+with_role n k = cond (eqb n 0) (Known (k Writer)) (cond (eqb n 1) (Known (k Compactor)) Unknown)
 
 -- the kind of an outer tag with the numbers of its fields, the time's first
-unfoldable pub kindFrom : ℕ → List ℕ → KindRead
-kindFrom tag v =
-    cond (eqb tag 0x10) (withRole (get_or v 1 0) (λ r. FENCE r (get_or v 2 0)))
-    (cond (eqb tag 0x11) (withRole (get_or v 1 0) (λ r. PUT r (get_or v 2 0) (get_or v 3 0) (get_or v 4 0 % 65536)))
+unfoldable pub kind_from : ℕ → List ℕ → KindRead
+kind_from tag v =
+    cond (eqb tag 0x10) (with_role (get_or v 1 0) (λ r. FENCE r (get_or v 2 0)))
+    (cond (eqb tag 0x11) (with_role (get_or v 1 0) (λ r. PUT r (get_or v 2 0) (get_or v 3 0) (get_or v 4 0 % 65536)))
     (cond (eqb tag 0x12) (Known (COMMIT (get_or v 1 0) (get_or v 2 0)))
     (cond (eqb tag 0x13) (Known (COMPACT (get_or v 1 0) (get_or v 2 0) (get_or v 3 0)))
     (cond (eqb tag 0x14) (Known (HOLD (get_or v 1 0) (get_or v 2 0) (get_or v 3 0)))
@@ -72,29 +72,29 @@ kindFrom tag v =
 
 -- well formed, or no step
 abbrev pub formed : Request → Request
-formed q = cond (canSay q) q Unreadable
+formed q = cond (can_say q) q Unreadable
 
-abbrev pub requestFrom : List ℕ → List ℕ → KindRead → Request
-requestFrom v l Unknown = Unreadable
-requestFrom v l (Known k) = formed (Asked (get_or v 0 0) k l)
+abbrev pub request_from : List ℕ → List ℕ → KindRead → Request
+request_from v l Unknown = Unreadable
+request_from v l (Known k) = formed (Asked (get_or v 0 0) k l)
 
-abbrev pub requestOfWalk : ℕ → Walked → Request
-requestOfWalk tag Broken = Unreadable
-requestOfWalk tag (Found v l) = requestFrom v l (kindFrom tag v)
+abbrev pub request_of_walk : ℕ → Walked → Request
+request_of_walk tag Broken = Unreadable
+request_of_walk tag (Found v l) = request_from v l (kind_from tag v)
 
 -- the fields that a record of this outer tag has are those of the kind with every number 0
-abbrev pub requestOfTag : ℕ → List ℕ → KindRead → Request
-requestOfTag tag value Unknown = Unreadable
-requestOfTag tag value (Known k) = requestOfWalk tag (walk (fields_of 0 k) value)
+abbrev pub request_of_tag : ℕ → List ℕ → KindRead → Request
+request_of_tag tag value Unknown = Unreadable
+request_of_tag tag value (Known k) = request_of_walk tag (walk (fields_of 0 k) value)
 
 -- the request that bytes are: one field of a known outer tag and nothing behind it
-unfoldable pub decodeStep : List ℕ → Request
-decodeStep bs =
+unfoldable pub decode_step : List ℕ → Request
+decode_step bs =
     cond (leb 3 (length bs) && eqb (claimed bs) (length bs - 3))
-    (requestOfTag (get_or bs 0 0) (drop 3 bs) (kindFrom (get_or bs 0 0) (replicate mostFields 0)))
+    (request_of_tag (get_or bs 0 0) (drop 3 bs) (kind_from (get_or bs 0 0) (replicate most_fields 0)))
     Unreadable
 
 -- a step in its places; beside a refusal stands the COLLECT of time 0
-abbrev pub stepRead : Request → StepRead
-stepRead Unreadable = record { reading = Malformed; step = record { time = 0; kind = COLLECT; list = nameList [] } }
-stepRead (Asked t k l) = record { reading = Read; step = record { time = t; kind = k; list = nameList l } }
+abbrev pub step_read : Request → StepRead
+step_read Unreadable = record { reading = Malformed; step = record { time = 0; kind = COLLECT; list = name_list [] } }
+step_read (Asked t k l) = record { reading = Read; step = record { time = t; kind = k; list = name_list l } }

@@ -12,27 +12,27 @@ pub data Walked : Type 0 where
   Found : List ℕ → List ℕ → Walked
   Broken : Walked
 
-abbrev pub numberThen : ℕ → Walked → Walked
-numberThen n Broken = Broken
-numberThen n (Found ns l) = Found (n ∷ ns) l
+abbrev pub number_then : ℕ → Walked → Walked
+number_then n Broken = Broken
+number_then n (Found ns l) = Found (n ∷ ns) l
 
-abbrev pub listThen : List ℕ → Walked → Walked
-listThen l Broken = Broken
-listThen l (Found ns none) = Found (0 ∷ ns) l
+abbrev pub list_then : List ℕ → Walked → Walked
+list_then l Broken = Broken
+list_then l (Found ns none) = Found (0 ∷ ns) l
 
 -- the field at the front, of n bytes, and then what was found behind it
-abbrev pub fieldThen : Field → List ℕ → ℕ → Walked → Walked
-fieldThen f bs n rest =
+abbrev pub field_then : Field → List ℕ → ℕ → Walked → Walked
+field_then f bs n rest =
     cond (eqb f.width 0)
-    (cond (eqb (n % 8) 0) (listThen (words_of (n / 8) (drop 3 bs)) rest) Broken)
-    (cond (eqb n f.width) (numberThen (kept64 (value_of (take n (drop 3 bs)))) rest) Broken)
+    (cond (eqb (n % 8) 0) (list_then (words_of (n / 8) (drop 3 bs)) rest) Broken)
+    (cond (eqb n f.width) (number_then (kept64 (value_of (take n (drop 3 bs)))) rest) Broken)
 
-abbrev pub headThen : Field → List ℕ → Head → Walked → Walked
-headThen f bs Bad rest = Broken
-headThen f bs (Holds n) rest = fieldThen f bs n rest
+abbrev pub head_then : Field → List ℕ → Head → Walked → Walked
+head_then f bs Bad rest = Broken
+head_then f bs (Holds n) rest = field_then f bs n rest
 
 -- "each once, in rising tag order", with their exact lengths and nothing more
 unfoldable pub walk : List Field → List ℕ → Walked
 walk [] [] = Found [] []
 walk [] (b ∷ bs) = Broken
-walk (f ∷ fs) bs = headThen f bs (head_of f.tag bs) (walk fs (drop (3 + claimed bs) bs))
+walk (f ∷ fs) bs = head_then f bs (head_of f.tag bs) (walk fs (drop (3 + claimed bs) bs))

@@ -4,23 +4,23 @@
 use Rattle.std.specs.Prelude.{Bool, cond, List, ℕ, ltb, length}
 use Rattle.fields.specs.Fields.{over}
 use Rattle.rules.specs.declared.Step.{Step}
-use Rattle.rules.specs.Typed.{requestOf, canSay, names_of}
+use Rattle.rules.specs.Typed.{request_of, can_say, names_of}
 use Rattle.records.specs.declared.Reading.{Reading}
 use Rattle.records.specs.declared.Reading.TheVariants.{Read, Malformed as NotRead}
 use Rattle.records.specs.declared.Write.{Write}
 use Rattle.records.specs.declared.Write.TheVariants.{Written, Malformed, Full}
-use Rattle.records.specs.Steps.{encodeStep}
+use Rattle.records.specs.Steps.{encode_step}
 
 -- "answer 2 for a malformed input", else 0
-abbrev pub readingCode : Reading → ℕ
-readingCode Read = 0
-readingCode NotRead = 2
+abbrev pub reading_code : Reading → ℕ
+reading_code Read = 0
+reading_code NotRead = 2
 
 -- how many bytes were written; 2 for what no reader takes; 0, which is no record's length, where room is short
-abbrev pub writeCode : Write → ℕ
-writeCode (Written n) = n
-writeCode Malformed = 2
-writeCode Full = 0
+abbrev pub write_code : Write → ℕ
+write_code (Written n) = n
+write_code Malformed = 2
+write_code Full = 0
 
 pub record Writing : Type 0 where
   pub answer : Write
@@ -33,5 +33,5 @@ writing taken bytes buffer =
     (cond (ltb (length buffer) (length bytes)) (record { answer = Full; buffer = buffer }) (record { answer = Written (length bytes); buffer = over bytes buffer }))
     (record { answer = Malformed; buffer = buffer })
 
-abbrev pub stepWriting : Step → List ℕ → Writing
-stepWriting p buffer = writing (canSay (requestOf p)) (encodeStep p.time p.kind (names_of p.list)) buffer
+abbrev pub step_writing : Step → List ℕ → Writing
+step_writing p buffer = writing (can_say (request_of p)) (encode_step p.time p.kind (names_of p.list)) buffer

@@ -1,6 +1,6 @@
 // The inner fields, a function for each tag, and a record's fields in their places.
 ghost use Rattle.std.specs.Prelude.{◌≡◌, [], ◌∷◌};
-ghost use Rattle.records.specs.Format.{inner as innerField, code as codeField, time as timeField, role as roleField, epoch as epochField, slot as slotField, object as objectField, currency as currencyField, list as listField, hold as holdField, manifest as manifestField, expiry as expiryField, inPlaces};
+ghost use Rattle.records.specs.Format.{inner as innerField, code as codeField, time as timeField, role as roleField, epoch as epochField, slot as slotField, object as objectField, currency as currencyField, list as listField, hold as holdField, manifest as manifestField, expiry as expiryField, in_places};
 
 use crate::{Field, Fields};
 use rules::Role;
@@ -81,7 +81,7 @@ pub fn expiry(e: u64) -> Field
 }
 
 pub fn one(a: Field) -> Fields
-    ensures { result ≡ inPlaces (a ∷ []) }
+    ensures { result ≡ in_places (a ∷ []) }
 {
     let z = Field {
         tag: 0,
@@ -93,7 +93,7 @@ pub fn one(a: Field) -> Fields
 }
 
 pub fn two(a: Field, b: Field) -> Fields
-    ensures { result ≡ inPlaces (a ∷ b ∷ []) }
+    ensures { result ≡ in_places (a ∷ b ∷ []) }
 {
     let z = Field {
         tag: 0,
@@ -105,7 +105,7 @@ pub fn two(a: Field, b: Field) -> Fields
 }
 
 pub fn three(a: Field, b: Field, c: Field) -> Fields
-    ensures { result ≡ inPlaces (a ∷ b ∷ c ∷ []) }
+    ensures { result ≡ in_places (a ∷ b ∷ c ∷ []) }
 {
     let z = Field {
         tag: 0,
@@ -117,7 +117,7 @@ pub fn three(a: Field, b: Field, c: Field) -> Fields
 }
 
 pub fn four(a: Field, b: Field, c: Field, d: Field) -> Fields
-    ensures { result ≡ inPlaces (a ∷ b ∷ c ∷ d ∷ []) }
+    ensures { result ≡ in_places (a ∷ b ∷ c ∷ d ∷ []) }
 {
     let z = Field {
         tag: 0,
@@ -129,7 +129,7 @@ pub fn four(a: Field, b: Field, c: Field, d: Field) -> Fields
 }
 
 pub fn five(a: Field, b: Field, c: Field, d: Field, e: Field) -> Fields
-    ensures { result ≡ inPlaces (a ∷ b ∷ c ∷ d ∷ e ∷ []) }
+    ensures { result ≡ in_places (a ∷ b ∷ c ∷ d ∷ e ∷ []) }
 {
     let z = Field {
         tag: 0,

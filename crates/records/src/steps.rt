@@ -2,10 +2,10 @@
 ghost use Rattle.std.specs.Prelude.{◌≡◌, ◌+◌, ◌*◌, ◌%◌, ◌≤◌, length};
 ghost use Rattle.rules.specs.declared.Kind.TheVariants.{Fence as FENCE, Put as PUT};
 ghost use Rattle.rules.specs.Request.{Unreadable};
-ghost use Rattle.records.specs.Format.{inPlaces};
-ghost use Rattle.records.specs.Found.{foundBy};
-ghost use Rattle.records.specs.Steps.{outerTag, fields_of, withRole, kindFrom, requestOfWalk, decodeStep, stepRead};
-ghost use Rattle.records.specs.Writing.{stepWriting};
+ghost use Rattle.records.specs.Format.{in_places};
+ghost use Rattle.records.specs.Found.{found_by};
+ghost use Rattle.records.specs.Steps.{outer_tag, fields_of, with_role, kind_from, request_of_walk, decode_step, step_read};
+ghost use Rattle.records.specs.Writing.{step_writing};
 
 use crate::format::{
     currency, epoch, expiry, five, four, hold, list, manifest, object, one, role, slot, three,
@@ -19,7 +19,7 @@ use rules::{Kind, NameList, Role, Step};
 // The table of the ten kinds
 
 fn outer_tag(kind: Kind) -> u8
-    ensures { result ≡ outerTag kind }
+    ensures { result ≡ outer_tag kind }
 {
     match kind {
         Kind::Fence { .. } => 0x10,
@@ -36,7 +36,7 @@ fn outer_tag(kind: Kind) -> u8
 }
 
 fn step_fields(at: u64, kind: Kind) -> Fields
-    ensures { result ≡ inPlaces (fields_of at kind) }
+    ensures { result ≡ in_places (fields_of at kind) }
 {
     let t = time(at);
     match kind {
@@ -72,7 +72,7 @@ fn step_fields(at: u64, kind: Kind) -> Fields
 // Reading
 
 fn fence_from(who: u64, slot: u64) -> KindRead
-    ensures { result ≡ withRole who (λ w. FENCE w slot) }
+    ensures { result ≡ with_role who (λ w. FENCE w slot) }
 {
     if who == 0 {
         return KindRead::Known(Kind::Fence {
@@ -90,7 +90,7 @@ fn fence_from(who: u64, slot: u64) -> KindRead
 }
 
 fn put_from(who: u64, epoch: u64, object: u64, money: u64) -> KindRead
-    ensures { result ≡ withRole who (λ w. PUT w epoch object (money % 65536)) }
+    ensures { result ≡ with_role who (λ w. PUT w epoch object (money % 65536)) }
 {
     let currency = (money % 65536) as u16;
     if who == 0 {
@@ -114,7 +114,7 @@ fn put_from(who: u64, epoch: u64, object: u64, money: u64) -> KindRead
 
 // The kind of an outer tag with the numbers of its fields, the time's first.
 fn kind_from(tag: u8, v: [u64; FIELDS]) -> KindRead
-    ensures { result ≡ kindFrom tag v }
+    ensures { result ≡ kind_from tag v }
 {
     let a = v[1];
     let b = v[2];
@@ -147,7 +147,7 @@ fn kind_from(tag: u8, v: [u64; FIELDS]) -> KindRead
 }
 
 fn malformed() -> StepRead
-    ensures { result ≡ stepRead Unreadable }
+    ensures { result ≡ step_read Unreadable }
 {
     let names = [0u64; rules::NAMES];
     let list = NameList { count: 0, names };
@@ -165,7 +165,7 @@ fn malformed() -> StepRead
 // The step of a walk over a record's value.
 fn step_of(tag: u8, value: &[u8], w: Walk) -> StepRead
     requires { w.list + 8 * w.count ≤ length value.now }
-    ensures { result ≡ stepRead (requestOfWalk tag (foundBy w value.now)) }
+    ensures { result ≡ step_read (request_of_walk tag (found_by w value.now)) }
 {
     let count = w.count;
     if !w.whole {
@@ -196,7 +196,7 @@ fn step_of(tag: u8, value: &[u8], w: Walk) -> StepRead
 
 // Takes all the bytes lent as one record.
 pub fn read_step(bytes: &[u8]) -> StepRead
-    ensures { result ≡ stepRead (decodeStep bytes.now) }
+    ensures { result ≡ step_read (decode_step bytes.now) }
 {
     if !is_whole(bytes) {
         return malformed();
@@ -215,7 +215,7 @@ pub fn read_step(bytes: &[u8]) -> StepRead
 
 // Writes a step's record at the start of `out`; the bytes beyond it stay. Where it refuses nothing is written.
 pub fn write_step(step: Step, out: &mut [u8]) -> Write
-    ensures { stepWriting step out.old ≡ record { answer = result; buffer = out.new } }
+    ensures { step_writing step out.old ≡ record { answer = result; buffer = out.new } }
 {
     if !rules::is_well_formed(step) {
         return Write::Malformed;

@@ -1,7 +1,7 @@
 // The reader's walk over the inner fields of a record, in place.
 ghost use Rattle.std.specs.Prelude.{◌≡◌, ◌+◌, ◌*◌, ◌≤◌, length};
 ghost use Rattle.records.specs.Walk.{walk as walkOver};
-ghost use Rattle.records.specs.Found.{fieldsIn, Placed, is_whole, held, firstList, foundBy, brokenWalk, placedAll};
+ghost use Rattle.records.specs.Found.{fields_in, Placed, is_whole, held, first_list, found_by, broken_walk, placed_all};
 
 use crate::{FIELDS, Field, Fields, Held, Place, Walk};
 use fields::{Head, Next};
@@ -55,7 +55,7 @@ fn read_field(bytes: &[u8], f: Field) -> Held
 
 // The list's place: the first field of width 0 has it.
 fn first_list(p: Place, width: usize, at: usize, len: usize) -> Place
-    ensures { result ≡ firstList p width at len }
+    ensures { result ≡ first_list p width at len }
 {
     if width != 0 {
         return p;
@@ -67,7 +67,7 @@ fn first_list(p: Place, width: usize, at: usize, len: usize) -> Place
 }
 
 fn broken() -> Walk
-    ensures { result ≡ brokenWalk }
+    ensures { result ≡ broken_walk }
 {
     let numbers = [0u64; FIELDS];
     Walk {
@@ -81,7 +81,7 @@ fn broken() -> Walk
 // A number for each field, and where the list stands; or that the bytes are not just these fields.
 pub fn walk(bytes: &[u8], fields: Fields) -> Walk
     requires { Placed fields }
-    ensures { (foundBy result bytes.now ≡ placedAll (walkOver (fieldsIn fields) bytes.now)) × (result.list + 8 * result.count ≤ length bytes.now) }
+    ensures { (found_by result bytes.now ≡ placed_all (walkOver (fields_in fields) bytes.now)) × (result.list + 8 * result.count ≤ length bytes.now) }
 {
     let n = fields.count;
     let mut numbers = [0u64; FIELDS];

@@ -2,8 +2,8 @@
 ghost use Rattle.std.specs.Prelude.{◌≡◌, true, ◌≤◌, ◌<◌, length};
 ghost use Rattle.fields.specs.Fields.{field};
 ghost use Rattle.rules.specs.Limits.{limits};
-ghost use Rattle.records.specs.Format.{content, bytes_of, recordOf};
-ghost use Rattle.records.specs.Found.{fieldsIn, is_narrow, Placed};
+ghost use Rattle.records.specs.Format.{content, bytes_of, record_of};
+ghost use Rattle.records.specs.Found.{fields_in, is_narrow, Placed};
 ghost use Rattle.records.specs.Writing.{writing};
 
 use crate::{Field, Fields, Write};
@@ -21,7 +21,7 @@ fn content_size(f: Field, list: &[u64]) -> usize
 // The length of all the fields.
 fn size_of(fields: Fields, list: &[u64]) -> usize
     requires { Placed fields × (length list.now ≤ limits.places) }
-    ensures { (result ≡ length (bytes_of (fieldsIn fields) list.now)) × (result < 65536) }
+    ensures { (result ≡ length (bytes_of (fields_in fields) list.now)) × (result < 65536) }
 {
     let n = fields.count;
     let mut size = 0;
@@ -50,8 +50,8 @@ fn put_field(f: Field, list: &[u64], out: &mut [u8])
 
 // Fills the slice with the fields, one behind the other.
 fn put_fields(fields: Fields, list: &[u64], out: &mut [u8])
-    requires { Placed fields × (length (bytes_of (fieldsIn fields) list.now) ≡ length out.old) }
-    ensures { out.new ≡ bytes_of (fieldsIn fields) list.now }
+    requires { Placed fields × (length (bytes_of (fields_in fields) list.now) ≡ length out.old) }
+    ensures { out.new ≡ bytes_of (fields_in fields) list.now }
 {
     let n = fields.count;
     let mut at = 0;
@@ -69,7 +69,7 @@ fn put_fields(fields: Fields, list: &[u64], out: &mut [u8])
 // Writes a record at the start of `out`, where there is room.
 pub fn write_record(tag: u8, fields: Fields, list: &[u64], out: &mut [u8]) -> Write
     requires { Placed fields × (length list.now ≤ limits.places) }
-    ensures { writing true (recordOf tag (fieldsIn fields) list.now) out.old ≡ record { answer = result; buffer = out.new } }
+    ensures { writing true (record_of tag (fields_in fields) list.now) out.old ≡ record { answer = result; buffer = out.new } }
 {
     let size = size_of(fields, list);
     let end = 3 + size;

@@ -18,9 +18,9 @@ use Rattle.rules.specs.Lists.{◌∈◌, none}
 use Rattle.ledger.specs.declared.Ledger.{Ledger}
 use Rattle.replay.specs.declared.Ending.{Ending}
 use Rattle.replay.specs.declared.Ending.TheVariants.{Whole, Torn, Full}
-use Rattle.replay.specs.Front.{answerTo, answerBytes}
-use Rattle.replay.specs.Replay.{Told, tell, Cut, cut_at, cutFor, cut, endingOf, replayOf}
-use Rattle.replay.specs.Counts.{verdictsOf, answered, Counted}
+use Rattle.replay.specs.Front.{answer_to, answer_bytes}
+use Rattle.replay.specs.Replay.{Told, tell, Cut, cut_at, cut_for, cut, ending_of, replay_of}
+use Rattle.replay.specs.Counts.{verdicts_of, answered, Counted}
 use Rattle.replay.proofs.Cutting.{cut-joined, cut-next}
 use Rattle.replay.proofs.Answers.{verdict-next, answer-fits}
 
@@ -33,13 +33,13 @@ pub record Ample (room : ℕ) (rs : List (List ℕ)) (t : Told) : Type 0 where
 pub tells : (l : Ledger) (room : ℕ) (rs : List (List ℕ)) → Ample room rs (tell l room rs)
 unfolding tell flatten
 tells l room [] = record { few = omega arith; fits = omega arith; each = λ e. refl }
-tells l room (r ∷ rs) = by (ltb room (length v)) refl (tells (answerTo l r).ledger (room - length v) rs)
+tells l room (r ∷ rs) = by (ltb room (length v)) refl (tells (answer_to l r).ledger (room - length v) rs)
   where
     v : List ℕ
-    v = answerBytes l r
+    v = answer_bytes l r
 
     more : Told
-    more = tell (answerTo l r).ledger (room - length v) rs
+    more = tell (answer_to l r).ledger (room - length v) rs
 
     by : (b : Bool) → ltb room (length v) ≡ b → Ample (room - length v) rs more
         → Ample room (r ∷ rs) (cond b (record { ledger = l; verdicts = []; full = true }) (record { ledger = more.ledger; verdicts = v ∷ more.verdicts; full = more.full }))
@@ -55,7 +55,7 @@ abbrev pub Fields : List (List ℕ) → Type 0
 Fields vs = (v : List ℕ) → v ∈ vs → (rest : List ℕ) → next_of (v ++ rest) ≡ Record (length v)
 
 pub cut-fields : (vs : List (List ℕ)) → Fields vs → cut (flatten vs) ≡ record { records = vs; rest = [] }
-unfolding flatten cutFor
+unfolding flatten cut_for
 cut-fields [] f = refl
 cut-fields (v ∷ vs) f =
     cut-next (v ++ flatten vs) ∙ ap (λ (x : Next). cut_at x (v ++ flatten vs) cut) (f v (Memᴰ.head refl) (flatten vs))
@@ -69,16 +69,16 @@ cut-fields (v ∷ vs) f =
 pub tell-fields : (l : Ledger) (room : ℕ) (rs : List (List ℕ)) → Fields (tell l room rs).verdicts
 unfolding tell
 tell-fields l room [] = λ v i. absurd (Memᴰ.not-nil i)
-tell-fields l room (r ∷ rs) = by (ltb room (length (answerBytes l r))) (tell-fields (answerTo l r).ledger (room - length (answerBytes l r)) rs)
+tell-fields l room (r ∷ rs) = by (ltb room (length (answer_bytes l r))) (tell-fields (answer_to l r).ledger (room - length (answer_bytes l r)) rs)
   where
     more : Told
-    more = tell (answerTo l r).ledger (room - length (answerBytes l r)) rs
+    more = tell (answer_to l r).ledger (room - length (answer_bytes l r)) rs
 
-    first : (rest : List ℕ) → next_of (answerBytes l r ++ rest) ≡ Record (length (answerBytes l r))
-    first rest = verdict-next (answerTo l r).verdict rest (answer-fits l r)
+    first : (rest : List ℕ) → next_of (answer_bytes l r ++ rest) ≡ Record (length (answer_bytes l r))
+    first rest = verdict-next (answer_to l r).verdict rest (answer-fits l r)
 
     by : (b : Bool) → Fields more.verdicts
-        → Fields (cond {A = Told} b (record { ledger = l; verdicts = []; full = true }) (record { ledger = more.ledger; verdicts = answerBytes l r ∷ more.verdicts; full = more.full })).verdicts
+        → Fields (cond {A = Told} b (record { ledger = l; verdicts = []; full = true }) (record { ledger = more.ledger; verdicts = answer_bytes l r ∷ more.verdicts; full = more.full })).verdicts
     by true f = λ v i. absurd (Memᴰ.not-nil i)
     by false f = λ v i rest. ⊎_elim (λ e. ap (λ (w : List ℕ). next_of (w ++ rest)) e ∙ first rest ∙ ap (λ (w : List ℕ). Record (length w)) (sym e)) (λ j. f v j rest) (Memᴰ.cases_cons i)
 
@@ -95,11 +95,11 @@ is_whole Torn = false
 is_whole Full = false
 
 -- a run ends whole where no verdict lacked room and nothing is left
-pub ends-whole : (full : Bool) (rest : List ℕ) → endingOf full rest ≡ Whole → (full ≡ false) × (rest ≡ [])
+pub ends_whole : (full : Bool) (rest : List ℕ) → ending_of full rest ≡ Whole → (full ≡ false) × (rest ≡ [])
 unfolding none
-ends-whole true rest e = absurd (false≢true (ap is_whole e))
-ends-whole false [] e = (refl, refl)
-ends-whole false (b ∷ rest) e = absurd (false≢true (ap is_whole e))
+ends_whole true rest e = absurd (false≢true (ap is_whole e))
+ends_whole false [] e = (refl, refl)
+ends_whole false (b ∷ rest) e = absurd (false≢true (ap is_whole e))
 
 module _ (l : Ledger) (trace out : List ℕ) where
   abbrev records : List (List ℕ)
@@ -113,33 +113,33 @@ module _ (l : Ledger) (trace out : List ℕ) where
 
   -- the bytes behind the records answered
   abbrev behind : List ℕ
-  behind = flatten (drop (length (verdictsOf l trace out)) records) ++ rest
+  behind = flatten (drop (length (verdicts_of l trace out)) records) ++ rest
 
   begins : flatten (answered l trace out) ++ behind ≡ trace
   begins =
-      let k = length (verdictsOf l trace out) in
+      let k = length (verdicts_of l trace out) in
       sym (append_assoc (flatten (answered l trace out)) (flatten (drop k records)) rest) ∙ ap (λ (x : List ℕ). x ++ rest) (first-joined k records) ∙ cut-joined trace
 
   -- where every record is answered and nothing is left, they are the trace
-  whole : length (verdictsOf l trace out) ≡ length records → rest ≡ [] → flatten (answered l trace out) ≡ trace
+  whole : length (verdicts_of l trace out) ≡ length records → rest ≡ [] → flatten (answered l trace out) ≡ trace
   whole each end =
       ap (λ (k : ℕ). flatten (take k records)) each ∙ ap flatten (take-length records)
       ∙ sym (append-nil (flatten records)) ∙ ap (λ (x : List ℕ). flatten records ++ x) (sym end) ∙ cut-joined trace
 
 pub counted : (l : Ledger) (trace out : List ℕ) → Counted l trace out
-unfolding replayOf
+unfolding replay_of
 counted l trace out =
-    let v = flatten (verdictsOf l trace out) in
+    let v = flatten (verdicts_of l trace out) in
     let a = flatten (answered l trace out) in
     let fits = (told l trace out).fits in
     record {
       joined = cut-joined trace;
-      asMany = length-take-le (length (verdictsOf l trace out)) (cut trace).records (told l trace out).few;
+      as_many = length-take-le (length (verdicts_of l trace out)) (cut trace).records (told l trace out).few;
       read = ap (take (length a)) (sym (begins l trace out)) ∙ take-append_seam a (behind l trace out);
-      readWithin = omega (arith, ap length (begins l trace out), length-append a (behind l trace out));
+      read_within = omega (arith, ap length (begins l trace out), length-append a (behind l trace out));
       written = take-append_seam v (drop (length v) out);
       beyond = drop-append_seam v (drop (length v) out);
-      readable = cut-fields (verdictsOf l trace out) (tell-fields l (length out) (cut trace).records);
+      readable = cut-fields (verdicts_of l trace out) (tell-fields l (length out) (cut trace).records);
       size = omega (arith, length-append v (drop (length v) out), length-drop (length v) out, fits);
-      all = λ e. let w = ends-whole (tell l (length out) (cut trace).records).full (cut trace).rest e in ap length (whole l trace out ((told l trace out).each w.0) w.1);
+      all = λ e. let w = ends_whole (tell l (length out) (cut trace).records).full (cut trace).rest e in ap length (whole l trace out ((told l trace out).each w.0) w.1);
     }

@@ -13,46 +13,46 @@ use Rattle.fields.specs.Fields.{over, next_of}
 use Rattle.records.specs.declared.Write.{Write}
 use Rattle.records.specs.declared.Write.TheVariants.{Written, Malformed, Full as Short}
 use Rattle.records.specs.contracts.Write as write
-use Rattle.records.specs.Steps.{decodeStep}
+use Rattle.records.specs.Steps.{decode_step}
 use Rattle.records.specs.Writing.{Writing}
-use Rattle.verdicts.specs.Verdicts.{verdictWriting}
+use Rattle.verdicts.specs.Verdicts.{verdict_writing}
 use Rattle.ledger.specs.declared.Ledger.{Ledger}
 use Rattle.ledger.specs.declared.StepAnswer.{StepAnswer}
 use Rattle.replay.specs.declared.Front.TheVariants.{Full, Judged}
-use Rattle.replay.specs.Front.{answerTo, answerBytes, Judgement, unchanged, recordStep}
-use Rattle.replay.proofs.Answers.{can-answer}
+use Rattle.replay.specs.Front.{answer_to, answer_bytes, Judgement, unchanged, record_step}
+use Rattle.replay.proofs.Answers.{can_answer_lem}
 use Rattle.replay.proofs.Cutting.{Found, next-found}
 
 -- the step that a writer's answer leads to
-abbrev pub steppedBy : Ledger → List ℕ → StepAnswer → Write → List ℕ → Judgement
-steppedBy l bytes a (Written k) out = record { answer = record { front = Judged (length bytes) k; ledger = a.ledger }; buffer = out }
-steppedBy l bytes a Malformed out = unchanged Full l out
-steppedBy l bytes a Short out = unchanged Full l out
+abbrev pub stepped_by : Ledger → List ℕ → StepAnswer → Write → List ℕ → Judgement
+stepped_by l bytes a (Written k) out = record { answer = record { front = Judged (length bytes) k; ledger = a.ledger }; buffer = out }
+stepped_by l bytes a Malformed out = unchanged Full l out
+stepped_by l bytes a Short out = unchanged Full l out
 
 -- a verdict that was not written left all as it was
 pub unwritten : (l : Ledger) (bytes : List ℕ) (a : StepAnswer) (w : Write) (out : List ℕ) → OneOf (1 ∷ 2 ∷ []) (tag_of write.the_type w)
-    → steppedBy l bytes a w out ≡ unchanged Full l out
+    → stepped_by l bytes a w out ≡ unchanged Full l out
 unwritten l bytes a (Written k) out h = absurd (miss (1 ∷ 2 ∷ []) 0 tt h)
 unwritten l bytes a Malformed out h = refl
 unwritten l bytes a Short out h = refl
 
 module _ (l : Ledger) (bytes out : List ℕ) where
-  by-room : (b : Bool) (v : List ℕ) → cond b (unchanged Full l out) (record { answer = record { front = Judged (length bytes) (length v); ledger = (answerTo l bytes).ledger }; buffer = over v out })
-      ≡ (let w : Writing = cond b (record { answer = Short; buffer = out }) (record { answer = Written (length v); buffer = over v out }) in steppedBy l bytes (answerTo l bytes) w.answer w.buffer)
+  by-room : (b : Bool) (v : List ℕ) → cond b (unchanged Full l out) (record { answer = record { front = Judged (length bytes) (length v); ledger = (answer_to l bytes).ledger }; buffer = over v out })
+      ≡ (let w : Writing = cond b (record { answer = Short; buffer = out }) (record { answer = Written (length v); buffer = over v out }) in stepped_by l bytes (answer_to l bytes) w.answer w.buffer)
   by-room true v = refl
   by-room false v = refl
 
-  stepped : (let w = verdictWriting (answerTo l bytes).verdict out in recordStep l bytes out ≡ steppedBy l bytes (answerTo l bytes) w.answer w.buffer)
-  unfolding recordStep
-  stepped = rw (can-answer l (decodeStep bytes)) (by-room (ltb (length out) (length (answerBytes l bytes))) (answerBytes l bytes))
+  stepped : (let w = verdict_writing (answer_to l bytes).verdict out in record_step l bytes out ≡ stepped_by l bytes (answer_to l bytes) w.answer w.buffer)
+  unfolding record_step
+  stepped = rw (can_answer_lem l (decode_step bytes)) (by-room (ltb (length out) (length (answer_bytes l bytes))) (answer_bytes l bytes))
 
   -- with the answer and what the writer gave and left
-  pub record-stepped : {a : StepAnswer} {w : Write} {exit : List ℕ} → a ≡ answerTo l bytes → verdictWriting a.verdict out ≡ record { answer = w; buffer = exit }
-      → recordStep l bytes out ≡ steppedBy l bytes a w exit
-  record-stepped {a} {w} {exit} e f =
-      stepped ∙ ap (λ (b : StepAnswer). steppedBy l bytes b (verdictWriting b.verdict out).answer (verdictWriting b.verdict out).buffer) (sym e)
-      ∙ ap (λ (g : Writing). steppedBy l bytes a g.answer g.buffer) f
+  pub record_stepped : {a : StepAnswer} {w : Write} {exit : List ℕ} → a ≡ answer_to l bytes → verdict_writing a.verdict out ≡ record { answer = w; buffer = exit }
+      → record_step l bytes out ≡ stepped_by l bytes a w exit
+  record_stepped {a} {w} {exit} e f =
+      stepped ∙ ap (λ (b : StepAnswer). stepped_by l bytes b (verdict_writing b.verdict out).answer (verdict_writing b.verdict out).buffer) (sym e)
+      ∙ ap (λ (g : Writing). stepped_by l bytes a g.answer g.buffer) f
 
 -- a record that was found is whole
-pub record-found : (bs : List ℕ) (n : ℕ) → next_of bs ≡ Record n → Found bs (Record n)
-record-found bs n e = subst (Found bs) e (next-found bs)
+pub record_found : (bs : List ℕ) (n : ℕ) → next_of bs ≡ Record n → Found bs (Record n)
+record_found bs n e = subst (Found bs) e (next-found bs)

@@ -11,19 +11,19 @@ use borrow.Author.Tests.{ltb-true, ltb-false}
 use Rattle.fields.specs.Fields.{claimed}
 use Rattle.rules.specs.declared.Kind.{Kind}
 use Rattle.rules.specs.Limits.{limits}
-use Rattle.rules.specs.Table.{wellFormed}
+use Rattle.rules.specs.Table.{well_formed}
 use Rattle.rules.specs.Request.{Request, Asked, Unreadable}
-use Rattle.rules.specs.Typed.{requestOf}
+use Rattle.rules.specs.Typed.{request_of}
 use Rattle.rules.proofs.Lists.{decide, true-false}
 use Rattle.rules.proofs.Typed.{list-asks}
 use Rattle.records.specs.declared.Reading.{Reading}
 use Rattle.records.specs.declared.Reading.TheVariants.{Read, Malformed}
 use Rattle.records.specs.declared.KindRead.{KindRead}
 use Rattle.records.specs.declared.KindRead.TheVariants.{Known, Unknown}
-use Rattle.records.specs.Format.{mostFields}
+use Rattle.records.specs.Format.{most_fields}
 use Rattle.records.specs.Walk.{Walked, Found, Broken, walk}
-use Rattle.records.specs.Steps.{fields_of, kindFrom, formed, requestFrom, requestOfWalk, requestOfTag, decodeStep, stepRead}
-use Rattle.records.proofs.Listed.{step-long}
+use Rattle.records.specs.Steps.{fields_of, kind_from, formed, request_from, request_of_walk, request_of_tag, decode_step, step_read}
+use Rattle.records.proofs.Listed.{step_long}
 use Rattle.ledger.specs.declared.Ledger.{Ledger}
 use Rattle.ledger.specs.Step.{judged}
 
@@ -32,54 +32,54 @@ abbrev Fits : Request → Type 0
 Fits (Asked t k l) = length l ≤ limits.names
 Fits Unreadable = Unit {0}
 
-few : (t : ℕ) (k : Kind) (l : List ℕ) → wellFormed limits t k l ≡ true → length l ≤ limits.names
+few : (t : ℕ) (k : Kind) (l : List ℕ) → well_formed limits t k l ≡ true → length l ≤ limits.names
 few t k l e =
-    ⊎_elim (λ h. true-false _ e (step-long t k l (ltb-true limits.names (length l) h))) (λ h. ltb-false limits.names (length l) h)
+    ⊎_elim (λ h. true-false _ e (step_long t k l (ltb-true limits.names (length l) h))) (λ h. ltb-false limits.names (length l) h)
     (decide (ltb limits.names (length l)))
 
 formed-fits : (q : Request) → Fits (formed q)
 formed-fits Unreadable = tt
-formed-fits (Asked t k l) = by (wellFormed limits t k l) refl
+formed-fits (Asked t k l) = by (well_formed limits t k l) refl
   where
-    by : (b : Bool) → wellFormed limits t k l ≡ b → Fits (cond b (Asked t k l) Unreadable)
+    by : (b : Bool) → well_formed limits t k l ≡ b → Fits (cond b (Asked t k l) Unreadable)
     by true e = few t k l e
     by false e = tt
 
-decoded-fits : (bs : List ℕ) → Fits (decodeStep bs)
-unfolding decodeStep
-decoded-fits bs = whole (leb 3 (length bs) && eqb (claimed bs) (length bs - 3)) (kindFrom (get_or bs 0 0) (replicate mostFields 0))
+decoded_fits : (bs : List ℕ) → Fits (decode_step bs)
+unfolding decode_step
+decoded_fits bs = whole (leb 3 (length bs) && eqb (claimed bs) (length bs - 3)) (kind_from (get_or bs 0 0) (replicate most_fields 0))
   where
-    known : (v l : List ℕ) (k : KindRead) → Fits (requestFrom v l k)
+    known : (v l : List ℕ) (k : KindRead) → Fits (request_from v l k)
     known v l Unknown = tt
     known v l (Known k) = formed-fits (Asked (get_or v 0 0) k l)
 
-    walked : (tag : ℕ) (w : Walked) → Fits (requestOfWalk tag w)
+    walked : (tag : ℕ) (w : Walked) → Fits (request_of_walk tag w)
     walked tag Broken = tt
-    walked tag (Found v l) = known v l (kindFrom tag v)
+    walked tag (Found v l) = known v l (kind_from tag v)
 
-    tagged : (tag : ℕ) (value : List ℕ) (k : KindRead) → Fits (requestOfTag tag value k)
+    tagged : (tag : ℕ) (value : List ℕ) (k : KindRead) → Fits (request_of_tag tag value k)
     tagged tag value Unknown = tt
     tagged tag value (Known k) = walked tag (walk (fields_of 0 k) value)
 
-    whole : (b : Bool) (k : KindRead) → Fits (cond b (requestOfTag (get_or bs 0 0) (drop 3 bs) k) Unreadable)
+    whole : (b : Bool) (k : KindRead) → Fits (cond b (request_of_tag (get_or bs 0 0) (drop 3 bs) k) Unreadable)
     whole true k = tagged (get_or bs 0 0) (drop 3 bs) k
     whole false k = tt
 
-abbrev isRead : Reading → Bool
-isRead Read = true
-isRead Malformed = false
+abbrev is_read : Reading → Bool
+is_read Read = true
+is_read Malformed = false
 
 module _ (l : Ledger) where
-  read-asks : (q : Request) → Fits q → (stepRead q).reading ≡ Read → judged l (requestOf (stepRead q).step) ≡ judged l q
-  read-asks Unreadable f e = absurd (false≢true (ap isRead e))
+  read-asks : (q : Request) → Fits q → (step_read q).reading ≡ Read → judged l (request_of (step_read q).step) ≡ judged l q
+  read-asks Unreadable f e = absurd (false≢true (ap is_read e))
   read-asks (Asked t k names) f e = ap (judged l) (list-asks t k names f)
 
-  refused-asks : (q : Request) → (stepRead q).reading ≡ Malformed → judged l Unreadable ≡ judged l q
+  refused-asks : (q : Request) → (step_read q).reading ≡ Malformed → judged l Unreadable ≡ judged l q
   refused-asks Unreadable e = refl
-  refused-asks (Asked t k names) e = absurd (false≢true (sym (ap isRead e)))
+  refused-asks (Asked t k names) e = absurd (false≢true (sym (ap is_read e)))
 
-  pub read-judged : (bs : List ℕ) → (stepRead (decodeStep bs)).reading ≡ Read → judged l (requestOf (stepRead (decodeStep bs)).step) ≡ judged l (decodeStep bs)
-  read-judged bs e = read-asks (decodeStep bs) (decoded-fits bs) e
+  pub read-judged : (bs : List ℕ) → (step_read (decode_step bs)).reading ≡ Read → judged l (request_of (step_read (decode_step bs)).step) ≡ judged l (decode_step bs)
+  read-judged bs e = read-asks (decode_step bs) (decoded_fits bs) e
 
-  pub refused-judged : (bs : List ℕ) → (stepRead (decodeStep bs)).reading ≡ Malformed → judged l Unreadable ≡ judged l (decodeStep bs)
-  refused-judged bs e = refused-asks (decodeStep bs) e
+  pub refused-judged : (bs : List ℕ) → (step_read (decode_step bs)).reading ≡ Malformed → judged l Unreadable ≡ judged l (decode_step bs)
+  refused-judged bs e = refused-asks (decode_step bs) e

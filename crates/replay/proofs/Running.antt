@@ -23,8 +23,8 @@ use Rattle.replay.specs.declared.Front.TheVariants.{End as AtEnd, Torn as IsTorn
 use Rattle.replay.specs.declared.Stepped.{Stepped}
 use Rattle.replay.specs.declared.Ending.{Ending}
 use Rattle.replay.specs.declared.Ending.TheVariants.{Whole, Torn as EndsTorn, Full}
-use Rattle.replay.specs.Front.{answerTo, answerBytes, Judgement, unchanged, judgedWith, recordStep, stepAt, frontStep}
-use Rattle.replay.specs.Replay.{Cut, cut_at, cut, Told, tell, Replay, endingOf, endingAt, replayed, replayOf}
+use Rattle.replay.specs.Front.{answer_to, answer_bytes, Judgement, unchanged, judged_with, record_step, step_at, front_step}
+use Rattle.replay.specs.Replay.{Cut, cut_at, cut, Told, tell, Replay, ending_of, ending_at, replayed, replay_of}
 use Rattle.replay.specs.contracts.Front.{enum}
 use Rattle.replay.proofs.Cutting.{Found, next-found, cut-next}
 
@@ -66,11 +66,11 @@ behind-behind a b n k f g r = λ i. record {
     written = omega arith
 
 -- how a run goes on from what became of the front
-abbrev pub goesOn : Judgement → List ℕ → Front → Replay
-goesOn j bs AtEnd = stopped Whole j.answer.ledger j.buffer
-goesOn j bs IsTorn = stopped EndsTorn j.answer.ledger j.buffer
-goesOn j bs NoRoom = stopped Full j.answer.ledger j.buffer
-goesOn j bs (Judged n k) = behind n k (take k j.buffer) (replayOf j.answer.ledger (drop n bs) (drop k j.buffer))
+abbrev pub goes_on : Judgement → List ℕ → Front → Replay
+goes_on j bs AtEnd = stopped Whole j.answer.ledger j.buffer
+goes_on j bs IsTorn = stopped EndsTorn j.answer.ledger j.buffer
+goes_on j bs NoRoom = stopped Full j.answer.ledger j.buffer
+goes_on j bs (Judged n k) = behind n k (take k j.buffer) (replay_of j.answer.ledger (drop n bs) (drop k j.buffer))
 
 -- and what is known where it goes on
 abbrev pub Goes : Judgement → List ℕ → Front → Type 0
@@ -97,7 +97,7 @@ first-told : (v r : List ℕ) (t : Told) (c : Cut) (out : List ℕ)
 unfolding flatten
 first-told v r t c out = λ i. record {
   answer = record {
-    ending = endingOf t.full c.rest;
+    ending = ending_of t.full c.rest;
     ledger = t.ledger;
     read = length-append r (flatten (take (length t.verdicts) c.records)) i;
     written = length-append v (flatten t.verdicts) i;
@@ -111,74 +111,74 @@ room-behind v out = ap length (drop-append_seam v (drop (length v) out)) ∙ len
 
 module _ (l : Ledger) (bs out : List ℕ) where
   -- a whole record of n bytes at the front
-  record-next : (n : ℕ) → n ≤ length bs → (b : Bool)
+  record_next : (n : ℕ) → n ≤ length bs → (b : Bool)
       → replayed
       (cond b (record { ledger = l; verdicts = []; full = true })
       (record {
-        ledger = (tell (answerTo l (take n bs)).ledger (length out - length (answerBytes l (take n bs))) (cut (drop n bs)).records).ledger;
-        verdicts = answerBytes l (take n bs) ∷ (tell (answerTo l (take n bs)).ledger (length out - length (answerBytes l (take n bs))) (cut (drop n bs)).records).verdicts;
-        full = (tell (answerTo l (take n bs)).ledger (length out - length (answerBytes l (take n bs))) (cut (drop n bs)).records).full;
+        ledger = (tell (answer_to l (take n bs)).ledger (length out - length (answer_bytes l (take n bs))) (cut (drop n bs)).records).ledger;
+        verdicts = answer_bytes l (take n bs) ∷ (tell (answer_to l (take n bs)).ledger (length out - length (answer_bytes l (take n bs))) (cut (drop n bs)).records).verdicts;
+        full = (tell (answer_to l (take n bs)).ledger (length out - length (answer_bytes l (take n bs))) (cut (drop n bs)).records).full;
       }))
       (cut_at (Record n) bs cut) out
-      ≡ (let j : Judgement = cond b (unchanged NoRoom l out) (judgedWith l (take n bs) out) in goesOn j bs j.answer.front)
-  unfolding flatten replayOf
-  record-next n h true = refl
-  record-next n h false =
+      ≡ (let j : Judgement = cond b (unchanged NoRoom l out) (judged_with l (take n bs) out) in goes_on j bs j.answer.front)
+  unfolding flatten replay_of
+  record_next n h true = refl
+  record_next n h false =
       let r = take n bs in
-      let v = answerBytes l r in
-      let next = (answerTo l r).ledger in
+      let v = answer_bytes l r in
+      let next = (answer_to l r).ledger in
       let rest = drop (length v) (over v out) in
       let few = length-take-le n bs h in
       first-told v r (tell next (length out - length v) (cut (drop n bs)).records) (cut (drop n bs)) out
       ∙ ap (λ (m : ℕ). behind (length r) (length v) (take (length v) (over v out)) (replayed (tell next m (cut (drop n bs)).records) (cut (drop n bs)) rest)) (sym (room-behind v out))
-      ∙ ap (λ (m : ℕ). behind (length r) (length v) (take (length v) (over v out)) (replayOf next (drop m bs) rest)) (sym few)
+      ∙ ap (λ (m : ℕ). behind (length r) (length v) (take (length v) (over v out)) (replay_of next (drop m bs) rest)) (sym few)
 
   at_front : (x : Next) → Found bs x
-      → replayed (tell l (length out) (cut_at x bs cut).records) (cut_at x bs cut) out ≡ goesOn (stepAt x l bs out) bs (stepAt x l bs out).answer.front
-  unfolding tell flatten recordStep
+      → replayed (tell l (length out) (cut_at x bs cut).records) (cut_at x bs cut) out ≡ goes_on (step_at x l bs out) bs (step_at x l bs out).answer.front
+  unfolding tell flatten record_step
   at_front End f = rw (← length_none bs, eq-eqb (length bs) 0 f)
   at_front Torn f = rw (← length_none bs, ne_eqb (length bs) 0 (omega (arith, f)))
-  at_front (Record n) f = record-next n f.1 (ltb (length out) (length (answerBytes l (take n bs))))
+  at_front (Record n) f = record_next n f.1 (ltb (length out) (length (answer_bytes l (take n bs))))
 
-  pub run-next : replayOf l bs out ≡ goesOn (frontStep l bs out) bs (frontStep l bs out).answer.front
-  unfolding replayOf frontStep
+  pub run-next : replay_of l bs out ≡ goes_on (front_step l bs out) bs (front_step l bs out).answer.front
+  unfolding replay_of front_step
   run-next =
       ap (λ (c : Cut). replayed (tell l (length out) c.records) c out) (cut-next bs)
       ∙ at_front (next_of bs) (next-found bs)
 
   -- what is known where it goes on
-  goes-record : (n : ℕ) → Found bs (Record n) → (b : Bool) → ltb (length out) (length (answerBytes l (take n bs))) ≡ b
-      → (let j : Judgement = cond b (unchanged NoRoom l out) (judgedWith l (take n bs) out) in Goes j bs j.answer.front)
-  goes-record n f true e = tt
-  goes-record n f false e =
-      let v = answerBytes l (take n bs) in
+  goes_record : (n : ℕ) → Found bs (Record n) → (b : Bool) → ltb (length out) (length (answer_bytes l (take n bs))) ≡ b
+      → (let j : Judgement = cond b (unchanged NoRoom l out) (judged_with l (take n bs) out) in Goes j bs j.answer.front)
+  goes_record n f true e = tt
+  goes_record n f false e =
+      let v = answer_bytes l (take n bs) in
       let few = length-take-le n bs f.1 in
       (omega (arith, few, f.0), omega (arith, few, f.1), omega (arith, length-append v (drop (length v) out)))
 
-  goes_at : (x : Next) → Found bs x → Goes (stepAt x l bs out) bs (stepAt x l bs out).answer.front
-  unfolding recordStep
+  goes_at : (x : Next) → Found bs x → Goes (step_at x l bs out) bs (step_at x l bs out).answer.front
+  unfolding record_step
   goes_at End f = tt
   goes_at Torn f = tt
-  goes_at (Record n) f = goes-record n f (ltb (length out) (length (answerBytes l (take n bs)))) refl
+  goes_at (Record n) f = goes_record n f (ltb (length out) (length (answer_bytes l (take n bs)))) refl
 
-  pub front_goes : Goes (frontStep l bs out) bs (frontStep l bs out).answer.front
-  unfolding frontStep
+  pub front_goes : Goes (front_step l bs out) bs (front_step l bs out).answer.front
+  unfolding front_step
   front_goes = goes_at (next_of bs) (next-found bs)
 
 -- Between two records: what is left says what all says
 pub record Going (l₀ : Ledger) (trace out₀ out : List ℕ) (l : Ledger) (read written : ℕ) : Type 0 where
-  pub same : replayOf l₀ trace out₀ ≡ behind read written (take written out) (replayOf l (drop read trace) (drop written out))
+  pub same : replay_of l₀ trace out₀ ≡ behind read written (take written out) (replay_of l (drop read trace) (drop written out))
   pub within : read ≤ length trace
   pub room : written ≤ length out
   pub long : length out ≡ length out₀
 
-pub at-start : (l : Ledger) (trace out : List ℕ) → Going l trace out out l 0 0
-at-start l trace out = record { same = alone (replayOf l trace out); within = omega arith; room = omega arith; long = refl }
+pub at_start_lem : (l : Ledger) (trace out : List ℕ) → Going l trace out out l 0 0
+at_start_lem l trace out = record { same = alone (replay_of l trace out); within = omega arith; room = omega arith; long = refl }
 
 -- One turn: the front of what is left was judged, with the output from its middle on
 pub record Turn (l₀ : Ledger) (trace out₀ out : List ℕ) (l : Ledger) (read written : ℕ) (r : Stepped) (b : List ℕ) : Type 0 where
   pub going : Going l₀ trace out₀ out l read written
-  pub stepped : frontStep l (take (length trace - read) (drop read trace)) (take (length out - written) (drop written out)) ≡ record { answer = r; buffer = b }
+  pub stepped : front_step l (take (length trace - read) (drop read trace)) (take (length out - written) (drop written out)) ≡ record { answer = r; buffer = b }
   pub kept : length b ≡ length (take (length out - written) (drop written out))
 
 module _ {l₀ : Ledger} {trace out₀ out : List ℕ} {l : Ledger} {read written : ℕ} {r : Stepped} {b : List ℕ} (t : Turn l₀ trace out₀ out l read written r b) where
@@ -188,11 +188,11 @@ module _ {l₀ : Ledger} {trace out₀ out : List ℕ} {l : Ledger} {read writte
   whole : (k : ℕ) (x : List ℕ) → take (length x - k) (drop k x) ≡ drop k x
   whole k x = take_all (length x - k) (drop k x) (omega (arith, length-drop k x))
 
-  judged-rest : frontStep l (drop read trace) (drop written out) ≡ j
-  judged-rest = sym (ap₂ (frontStep l) (whole read trace) (whole written out)) ∙ t.stepped
+  judged-rest : front_step l (drop read trace) (drop written out) ≡ j
+  judged-rest = sym (ap₂ (front_step l) (whole read trace) (whole written out)) ∙ t.stepped
 
-  as_many : length b ≡ length out - written
-  as_many = t.kept ∙ ap length (whole written out) ∙ length-drop written out
+  as_many_lem : length b ≡ length out - written
+  as_many_lem = t.kept ∙ ap length (whole written out) ∙ length-drop written out
 
   -- the output with the rest put back
   abbrev pub now : List ℕ
@@ -203,25 +203,25 @@ module _ {l₀ : Ledger} {trace out₀ out : List ℕ} {l : Ledger} {read writte
       ap (λ (x : List ℕ). take written out ++ (b ++ x)) (drop_of_length-le (drop written out) {i = length out - written} (omega (arith, length-drop written out)))
       ∙ ap (λ (x : List ℕ). take written out ++ x) (append-nil b)
 
-  went : replayOf l₀ trace out₀ ≡ behind read written (take written out) (goesOn j (drop read trace) r.front)
+  went : replay_of l₀ trace out₀ ≡ behind read written (take written out) (goes_on j (drop read trace) r.front)
   went =
       t.going.same
       ∙ ap (behind read written (take written out))
-      (run-next l (drop read trace) (drop written out) ∙ ap (λ (i : Judgement). goesOn i (drop read trace) i.answer.front) judged-rest)
+      (run-next l (drop read trace) (drop written out) ∙ ap (λ (i : Judgement). goes_on i (drop read trace) i.answer.front) judged-rest)
 
   -- it stops
-  ends : (f : Front) (x : Ending) → r.front ≡ f → goesOn j (drop read trace) f ≡ stopped x r.ledger b
-      → replayOf l₀ trace out₀ ≡ record { answer = record { ending = x; ledger = r.ledger; read = read; written = written }; buffer = now }
+  ends : (f : Front) (x : Ending) → r.front ≡ f → goes_on j (drop read trace) f ≡ stopped x r.ledger b
+      → replay_of l₀ trace out₀ ≡ record { answer = record { ending = x; ledger = r.ledger; read = read; written = written }; buffer = now }
   ends f x at end =
-      went ∙ ap (λ (f : Front). behind read written (take written out) (goesOn j (drop read trace) f)) at ∙ ap (behind read written (take written out)) end
+      went ∙ ap (λ (f : Front). behind read written (take written out) (goes_on j (drop read trace) f)) at ∙ ap (behind read written (take written out)) end
       ∙ (λ i. record { answer = record { ending = x; ledger = r.ledger; read = add-zero read i; written = add-zero written i }; buffer = sym put_back i })
 
-  pub stops : {x : Ending} → OneOf (0 ∷ 1 ∷ 2 ∷ []) (tag_of (declared enum) r.front) → x ≡ endingAt r.front
-      → replayOf l₀ trace out₀ ≡ record { answer = record { ending = x; ledger = r.ledger; read = read; written = written }; buffer = now }
+  pub stops : {x : Ending} → OneOf (0 ∷ 1 ∷ 2 ∷ []) (tag_of (declared enum) r.front) → x ≡ ending_at r.front
+      → replay_of l₀ trace out₀ ≡ record { answer = record { ending = x; ledger = r.ledger; read = read; written = written }; buffer = now }
   stops {x} o e = by r.front refl o e
     where
-      by : (f : Front) → r.front ≡ f → OneOf (0 ∷ 1 ∷ 2 ∷ []) (tag_of (declared enum) f) → x ≡ endingAt f
-          → replayOf l₀ trace out₀ ≡ record { answer = record { ending = x; ledger = r.ledger; read = read; written = written }; buffer = now }
+      by : (f : Front) → r.front ≡ f → OneOf (0 ∷ 1 ∷ 2 ∷ []) (tag_of (declared enum) f) → x ≡ ending_at f
+          → replay_of l₀ trace out₀ ≡ record { answer = record { ending = x; ledger = r.ledger; read = read; written = written }; buffer = now }
       by AtEnd at o e = ends AtEnd x at (ap (λ (y : Ending). stopped y r.ledger b) (sym e))
       by IsTorn at o e = ends IsTorn x at (ap (λ (y : Ending). stopped y r.ledger b) (sym e))
       by NoRoom at o e = ends NoRoom x at (ap (λ (y : Ending). stopped y r.ledger b) (sym e))
@@ -235,11 +235,11 @@ module _ {l₀ : Ledger} {trace out₀ out : List ℕ} {l : Ledger} {read writte
     pub some_read : 3 ≤ n
     some_read = known.0
 
-    pub read-within : read + n ≤ length trace
-    read-within = omega (arith, known.1, length-drop read trace, t.going.within)
+    pub read_within_lem : read + n ≤ length trace
+    read_within_lem = omega (arith, known.1, length-drop read trace, t.going.within)
 
     pub written-within : written + k ≤ length out
-    written-within = omega (arith, known.2, as_many, t.going.room)
+    written-within = omega (arith, known.2, as_many_lem, t.going.room)
 
     before : length (take written out) ≡ written
     before = length-take-le written out t.going.room
@@ -251,13 +251,13 @@ module _ {l₀ : Ledger} {trace out₀ out : List ℕ} {l : Ledger} {read writte
     dropped =
         ap (drop (written + k)) put_back ∙ ap (λ (m : ℕ). drop (m + k) (take written out ++ b)) (sym before) ∙ drop-append-add (take written out) b k
 
-    pub goes-again : Going l₀ trace out₀ now r.ledger (read + n) (written + k)
-    goes-again = record {
+    pub goes_again : Going l₀ trace out₀ now r.ledger (read + n) (written + k)
+    goes_again = record {
       same =
-          went ∙ ap (λ (f : Front). behind read written (take written out) (goesOn j (drop read trace) f)) at
-          ∙ behind-behind read written n k (take written out) (take k b) (replayOf r.ledger (drop n (drop read trace)) (drop k b))
-          ∙ (λ i. behind (read + n) (written + k) (sym taken i) (replayOf r.ledger (further i) (sym dropped i)));
-      within = read-within;
+          went ∙ ap (λ (f : Front). behind read written (take written out) (goes_on j (drop read trace) f)) at
+          ∙ behind-behind read written n k (take written out) (take k b) (replay_of r.ledger (drop n (drop read trace)) (drop k b))
+          ∙ (λ i. behind (read + n) (written + k) (sym taken i) (replay_of r.ledger (further i) (sym dropped i)));
+      within = read_within_lem;
       room = omega (arith, written-within, long);
       long = long ∙ t.going.long;
     }

@@ -5,9 +5,9 @@ use Rattle.fields.specs.declared.Next.{Next}
 use Rattle.fields.specs.declared.Next.TheVariants.{End, Torn, Record}
 use Rattle.fields.specs.Fields.{over, next_of}
 use Rattle.rules.specs.declared.Verdict.{Verdict}
-use Rattle.rules.specs.Typed.{objectsOf}
-use Rattle.records.specs.Steps.{decodeStep}
-use Rattle.verdicts.specs.Verdicts.{encodeVerdict}
+use Rattle.rules.specs.Typed.{objects_of}
+use Rattle.records.specs.Steps.{decode_step}
+use Rattle.verdicts.specs.Verdicts.{encode_verdict}
 use Rattle.ledger.specs.declared.Ledger.{Ledger}
 use Rattle.ledger.specs.declared.StepAnswer.{StepAnswer}
 use Rattle.ledger.specs.Step.{judged}
@@ -16,22 +16,22 @@ use Rattle.replay.specs.declared.Front.TheVariants.{End as AtEnd, Torn as IsTorn
 use Rattle.replay.specs.declared.Stepped.{Stepped}
 
 -- a record's verdict and the next ledger; bytes that are no step have 2, or 1 on a ledger that is not sound
-abbrev pub answerTo : Ledger → List ℕ → StepAnswer
-answerTo l bytes = judged l (decodeStep bytes)
+abbrev pub answer_to : Ledger → List ℕ → StepAnswer
+answer_to l bytes = judged l (decode_step bytes)
 
 -- the bytes of a verdict
-abbrev pub verdictBytes : Verdict → List ℕ
-verdictBytes v = encodeVerdict v.answer (objectsOf v.list)
+abbrev pub verdict_bytes : Verdict → List ℕ
+verdict_bytes v = encode_verdict v.answer (objects_of v.list)
 
-abbrev pub answerBytes : Ledger → List ℕ → List ℕ
-answerBytes l bytes = verdictBytes (answerTo l bytes).verdict
+abbrev pub answer_bytes : Ledger → List ℕ → List ℕ
+answer_bytes l bytes = verdict_bytes (answer_to l bytes).verdict
 
 -- the paper's words as numbers: 0 the end, 1 torn, 2 full, those of a run's endings; 3 a record was judged, with the bytes read and written
-abbrev pub frontCode : Front → ℕ
-frontCode AtEnd = 0
-frontCode IsTorn = 1
-frontCode Full = 2
-frontCode (Judged n k) = 3
+abbrev pub front_code : Front → ℕ
+front_code AtEnd = 0
+front_code IsTorn = 1
+front_code Full = 2
+front_code (Judged n k) = 3
 
 -- what a step on bytes answers, and the output it leaves
 pub record Judgement : Type 0 where
@@ -43,20 +43,20 @@ abbrev pub unchanged : Front → Ledger → List ℕ → Judgement
 unchanged f l out = record { answer = record { front = f; ledger = l }; buffer = out }
 
 -- the verdict is laid over the start of the output, and the bytes beyond stay
-abbrev pub judgedWith : Ledger → List ℕ → List ℕ → Judgement
-judgedWith l bytes out = record {
-  answer = record { front = Judged (length bytes) (length (answerBytes l bytes)); ledger = (answerTo l bytes).ledger };
-  buffer = over (answerBytes l bytes) out;
+abbrev pub judged_with : Ledger → List ℕ → List ℕ → Judgement
+judged_with l bytes out = record {
+  answer = record { front = Judged (length bytes) (length (answer_bytes l bytes)); ledger = (answer_to l bytes).ledger };
+  buffer = over (answer_bytes l bytes) out;
 }
 
 -- a whole record: ""full" is said exactly when its verdict is longer than the room left"
-unfoldable pub recordStep : Ledger → List ℕ → List ℕ → Judgement
-recordStep l bytes out = cond (ltb (length out) (length (answerBytes l bytes))) (unchanged Full l out) (judgedWith l bytes out)
+unfoldable pub record_step : Ledger → List ℕ → List ℕ → Judgement
+record_step l bytes out = cond (ltb (length out) (length (answer_bytes l bytes))) (unchanged Full l out) (judged_with l bytes out)
 
-abbrev pub stepAt : Next → Ledger → List ℕ → List ℕ → Judgement
-stepAt End l trace out = unchanged AtEnd l out
-stepAt Torn l trace out = unchanged IsTorn l out
-stepAt (Record n) l trace out = recordStep l (take n trace) out
+abbrev pub step_at : Next → Ledger → List ℕ → List ℕ → Judgement
+step_at End l trace out = unchanged AtEnd l out
+step_at Torn l trace out = unchanged IsTorn l out
+step_at (Record n) l trace out = record_step l (take n trace) out
 
-unfoldable pub frontStep : Ledger → List ℕ → List ℕ → Judgement
-frontStep l trace out = stepAt (next_of trace) l trace out
+unfoldable pub front_step : Ledger → List ℕ → List ℕ → Judgement
+front_step l trace out = step_at (next_of trace) l trace out

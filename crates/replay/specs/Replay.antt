@@ -12,7 +12,7 @@ use Rattle.replay.specs.declared.Front.{Front}
 use Rattle.replay.specs.declared.Ending.{Ending}
 use Rattle.replay.specs.declared.Ending.TheVariants.{Whole, Torn as IsTorn, Full}
 use Rattle.replay.specs.declared.Ran.{Ran}
-use Rattle.replay.specs.Front.{frontCode, answerTo, answerBytes}
+use Rattle.replay.specs.Front.{front_code, answer_to, answer_bytes}
 
 -- The records of a trace, and the rest behind them: nothing, or a torn record
 
@@ -26,13 +26,13 @@ cut_at Torn bs more = record { records = []; rest = bs }
 cut_at (Record n) bs more = record { records = take n bs ∷ (more (drop n bs)).records; rest = (more (drop n bs)).rest }
 
 -- at most so many records
-unfoldable pub cutFor : ℕ → List ℕ → Cut
-cutFor zero bs = record { records = []; rest = bs }
-cutFor (suc k) bs = cut_at (next_of bs) bs (cutFor k)
+unfoldable pub cut_for : ℕ → List ℕ → Cut
+cut_for zero bs = record { records = []; rest = bs }
+cut_for (suc k) bs = cut_at (next_of bs) bs (cut_for k)
 
 -- a record has three bytes or more, so there are no more records than bytes
 abbrev pub cut : List ℕ → Cut
-cut bs = cutFor (length bs) bs
+cut bs = cut_for (length bs) bs
 
 -- Records judged one after another, each on the ledger that the one before it left and with the room that the verdicts before it left
 
@@ -46,39 +46,39 @@ pub record Told : Type 0 where
 unfoldable pub tell : Ledger → ℕ → List (List ℕ) → Told
 tell l room [] = record { ledger = l; verdicts = []; full = false }
 tell l room (r ∷ rs) =
-    cond (ltb room (length (answerBytes l r)))
+    cond (ltb room (length (answer_bytes l r)))
     (record { ledger = l; verdicts = []; full = true })
     (record {
-      ledger = (tell (answerTo l r).ledger (room - length (answerBytes l r)) rs).ledger;
-      verdicts = answerBytes l r ∷ (tell (answerTo l r).ledger (room - length (answerBytes l r)) rs).verdicts;
-      full = (tell (answerTo l r).ledger (room - length (answerBytes l r)) rs).full;
+      ledger = (tell (answer_to l r).ledger (room - length (answer_bytes l r)) rs).ledger;
+      verdicts = answer_bytes l r ∷ (tell (answer_to l r).ledger (room - length (answer_bytes l r)) rs).verdicts;
+      full = (tell (answer_to l r).ledger (room - length (answer_bytes l r)) rs).full;
     })
 
 -- The run whole
 
 -- the paper's words as numbers: 0 whole, 1 torn, 2 full
-abbrev pub endingCode : Ending → ℕ
-endingCode Whole = 0
-endingCode IsTorn = 1
-endingCode Full = 2
+abbrev pub ending_code : Ending → ℕ
+ending_code Whole = 0
+ending_code IsTorn = 1
+ending_code Full = 2
 
 -- what a run answers, and the output it leaves
 pub record Replay : Type 0 where
   pub answer : Ran
   pub buffer : List ℕ
 
-abbrev pub endingOf : Bool → List ℕ → Ending
-endingOf full rest = cond full Full (cond (none rest) Whole IsTorn)
+abbrev pub ending_of : Bool → List ℕ → Ending
+ending_of full rest = cond full Full (cond (none rest) Whole IsTorn)
 
 -- the same by what becomes of the front of what is left, as the code asks: by its number, which is then the ending's; a judged one ends no run
-abbrev pub endingAt : Front → Ending
-endingAt f = cond (eqb (frontCode f) 1) IsTorn (cond (eqb (frontCode f) 2) Full Whole)
+abbrev pub ending_at : Front → Ending
+ending_at f = cond (eqb (front_code f) 1) IsTorn (cond (eqb (front_code f) 2) Full Whole)
 
 -- the bytes read are those of the records whose verdicts were written, the bytes written those of the verdicts
 abbrev pub replayed : Told → Cut → List ℕ → Replay
 replayed t c out = record {
   answer = record {
-    ending = endingOf t.full c.rest;
+    ending = ending_of t.full c.rest;
     ledger = t.ledger;
     read = length (flatten (take (length t.verdicts) c.records));
     written = length (flatten t.verdicts);
@@ -86,5 +86,5 @@ replayed t c out = record {
   buffer = over (flatten t.verdicts) out;
 }
 
-unfoldable pub replayOf : Ledger → List ℕ → List ℕ → Replay
-replayOf l trace out = replayed (tell l (length out) (cut trace).records) (cut trace) out
+unfoldable pub replay_of : Ledger → List ℕ → List ℕ → Replay
+replay_of l trace out = replayed (tell l (length out) (cut trace).records) (cut trace) out

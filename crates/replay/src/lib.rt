@@ -1,9 +1,9 @@
 // Records judged on a ledger: the one at the front of a trace, and a trace whole (document 01, "Records and names").
 ghost use Rattle.std.specs.Prelude.{◌≡◌};
 ghost use Rattle.ledger.specs.Step.{judged};
-ghost use Rattle.records.specs.Steps.{decodeStep};
-ghost use Rattle.replay.specs.Front.{recordStep, frontStep};
-ghost use Rattle.replay.specs.Replay.{endingAt, replayOf};
+ghost use Rattle.records.specs.Steps.{decode_step};
+ghost use Rattle.replay.specs.Front.{record_step, front_step};
+ghost use Rattle.replay.specs.Replay.{ending_at, replay_of};
 
 use fields::Next;
 use ledger::{Ledger, StepAnswer};
@@ -48,7 +48,7 @@ pub struct Ran {
 
 // The verdict and the next ledger of a record.
 fn answer_to(ledger: Ledger, bytes: &[u8]) -> StepAnswer
-    ensures { result ≡ judged ledger (decodeStep bytes.now) }
+    ensures { result ≡ judged ledger (decode_step bytes.now) }
 {
     let read = records::read_step(bytes);
     let reading = read.reading;
@@ -61,7 +61,7 @@ fn answer_to(ledger: Ledger, bytes: &[u8]) -> StepAnswer
 
 // Judges a record; its verdict goes to the start of `out`.
 fn judge_record(before: Ledger, bytes: &[u8], out: &mut [u8]) -> Stepped
-    ensures { recordStep before bytes.now out.old ≡ record { answer = result; buffer = out.new } }
+    ensures { record_step before bytes.now out.old ≡ record { answer = result; buffer = out.new } }
 {
     let answer = answer_to(before, bytes);
     let verdict = answer.verdict;
@@ -84,7 +84,7 @@ fn judge_record(before: Ledger, bytes: &[u8], out: &mut [u8]) -> Stepped
 // The step on bytes: judges the record at the front of the trace. Its verdict goes to the start of `out`, and the bytes
 // beyond stay. At the end, torn and full the ledger and `out` are as they were.
 pub fn step_record(ledger: Ledger, trace: &[u8], out: &mut [u8]) -> Stepped
-    ensures { frontStep ledger trace.now out.old ≡ record { answer = result; buffer = out.new } }
+    ensures { front_step ledger trace.now out.old ≡ record { answer = result; buffer = out.new } }
 {
     let next = fields::next_record(trace);
     match next {
@@ -102,7 +102,7 @@ pub fn step_record(ledger: Ledger, trace: &[u8], out: &mut [u8]) -> Stepped
 
 // How a run ends by what became of the front. A judged one ends no run.
 fn ending_at(front: Front) -> Ending
-    ensures { result ≡ endingAt front }
+    ensures { result ≡ ending_at front }
 {
     match front {
         Front::End => Ending::Whole,
@@ -114,7 +114,7 @@ fn ending_at(front: Front) -> Ending
 
 // The run: goes on past refusals; each verdict is written directly behind the one before, and the bytes beyond stay.
 pub fn run(ledger: Ledger, trace: &[u8], out: &mut [u8]) -> Ran
-    ensures { replayOf ledger trace.now out.old ≡ record { answer = result; buffer = out.new } }
+    ensures { replay_of ledger trace.now out.old ≡ record { answer = result; buffer = out.new } }
 {
     let mut ledger = ledger;
     let mut read = 0;

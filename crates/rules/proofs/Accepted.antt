@@ -16,9 +16,9 @@ use Rattle.rules.specs.Lists.{◌∈◌, any}
 use Rattle.rules.specs.State.{State}
 use Rattle.rules.specs.Step.{settle}
 use Rattle.rules.specs.Table.{nonzero, row13, row8, rows}
-use Rattle.rules.specs.Words.{active, liveHolds, stored}
+use Rattle.rules.specs.Words.{active, live_holds, stored}
 use Rattle.rules.proofs.Holds.{Active}
-use Rattle.rules.proofs.Lists.{any-in, decide, in-any, or_cases, true-false}
+use Rattle.rules.proofs.Lists.{any_in, decide, in_any, or_cases, true-false}
 use Rattle.rules.proofs.Table.{Clear}
 
 -- a row that is the test's negation is clear where the test passes
@@ -39,16 +39,16 @@ row8-clear t s l e n i = step (decide (stored s n))
   where
     step : (stored s n ≡ true) ⊎ (stored s n ≡ false) → stored s n ≡ true
     step (inl q) = q
-    step (inr q) = true-false _ (in-any (λ n. not (stored s n)) i (ap not q)) e
+    step (inr q) = true-false _ (in_any (λ n. not (stored s n)) i (ap not q)) e
 
 -- the manifest asked for is current, or a live hold names it
 pub row13-clear : (t : ℕ) (s : State) (m : ℕ) → row13 s t m ≡ false → Active (settle t s) m
 unfolding active
 row13-clear t s m e = step (or_cases (eqb m s.current.number) _ (not-false _ e))
   where
-    step : (eqb m s.current.number ≡ true) ⊎ (any (λ (y : Hold). eqb m y.manifest) (liveHolds t s) ≡ true) → Active (settle t s) m
+    step : (eqb m s.current.number ≡ true) ⊎ (any (λ (y : Hold). eqb m y.manifest) (live_holds t s) ≡ true) → Active (settle t s) m
     step (inl q) = inl (eqb-true m s.current.number q)
-    step (inr q) = let k = any-in (λ (y : Hold). eqb m y.manifest) (liveHolds t s) q in inr (k.0, k.1, eqb-true m k.0.manifest k.2)
+    step (inr q) = let k = any_in (λ (y : Hold). eqb m y.manifest) (live_holds t s) q in inr (k.0, k.1, eqb-true m k.0.manifest k.2)
 
 -- row 3 stands second for every kind
 pub row3-clear : (L : Limits) (s : State) (t : ℕ) (k : Kind) (l : List ℕ) → Clear (rows L s t k l) → s.clock ≤ t

@@ -20,21 +20,21 @@ use Rattle.rules.specs.Request.{Asked, Request}
 use Rattle.rules.specs.Sound.{ordered, sound}
 use Rattle.rules.specs.State.{Manifest, State, kept, objects, occupied}
 use Rattle.rules.specs.Step.{accepts, alone, answers, collected, granted, reply, rows_of, settle, size, verdict}
-use Rattle.rules.specs.Table.{rows, wellFormed}
+use Rattle.rules.specs.Table.{rows, well_formed}
 use Rattle.rules.specs.Words.{dead}
-use Rattle.rules.proofs.Lists.{and_both, any-in, decide, keep-in}
+use Rattle.rules.proofs.Lists.{and_both, any_in, decide, keep_in}
 use Rattle.rules.proofs.Numbers.{has_in, keep-length, sorted-length}
-use Rattle.rules.proofs.Ordered.{Head, ordered-above, ordered-front, ordered-head, ordered-keep}
+use Rattle.rules.proofs.Ordered.{Head, ordered_above, ordered_front, ordered-head, ordered-keep}
 use Rattle.rules.proofs.Pigeonhole.{pigeonhole}
 use Rattle.rules.proofs.Shape.{Shape, held_of, shape_of}
-use Rattle.rules.proofs.Table.{of-clear}
+use Rattle.rules.proofs.Table.{of_clear}
 
 -- Nine manifests are enough
 
 ordered-distinct : (n w c : ℕ) (ms : List Manifest) → ordered n w c ms ≡ true → distinct (map (λ (m : Manifest). m.number) ms) ≡ true
 unfolding distinct
 ordered-distinct n w c [] e = refl
-ordered-distinct n w c (m ∷ ms) e = and_both _ _ (ap not (absent (decide (has m.number ks)))) (ordered-distinct (suc m.number) m.writerEpoch m.compactorEpoch ms k.tail)
+ordered-distinct n w c (m ∷ ms) e = and_both _ _ (ap not (absent (decide (has m.number ks)))) (ordered-distinct (suc m.number) m.writer_epoch m.compactor_epoch ms k.tail)
   where
     ks : List ℕ
     ks = map (λ (m : Manifest). m.number) ms
@@ -45,7 +45,7 @@ ordered-distinct n w c (m ∷ ms) e = and_both _ _ (ap not (absent (decide (has 
     absent : (has m.number ks ≡ true) ⊎ (has m.number ks ≡ false) → has m.number ks ≡ false
     absent (inl t) =
         let q = Memᴰ.of_map (λ (m : Manifest). m.number) ms (has_in _ _ t) in
-        let b = ordered-above (suc m.number) m.writerEpoch m.compactorEpoch ms q.0 k.tail q.1 in
+        let b = ordered_above (suc m.number) m.writer_epoch m.compactor_epoch ms q.0 k.tail q.1 in
         let c = q.2 in
         absurd (omega arith)
     absent (inr t) = t
@@ -67,16 +67,16 @@ kept-few s r =
     let p : Manifest → Bool = λ m. any (λ (x : Hold). eqb m.number x.manifest) s.holds in
     let e = ordered-keep p 0 0 0 (kept s) [] (ap (ordered 0 0 0) (append-nil (kept s)) ∙ r.ordered) in
     let a = held-few (keep p (kept s)) s.holds (ap (ordered 0 0 0) (sym (append-nil (keep p (kept s)))) ∙ e) (λ m i.
-    let k = any-in (λ (x : Hold). eqb m.number x.manifest) s.holds (keep-in p (kept s) i).1 in
+    let k = any_in (λ (x : Hold). eqb m.number x.manifest) s.holds (keep_in p (kept s) i).1 in
     (k.0, k.1, eqb-true m.number k.0.manifest k.2)) in
     let b = r.few in
     omega arith
 
 -- older manifests of a sound ledger: at most eight, so nine with the current one
-pub nine-enough : (L : Limits) (s : State) → sound L s ≡ true → length s.older ≤ L.holds
-nine-enough L s e =
+pub nine_enough : (L : Limits) (s : State) → sound L s ≡ true → length s.older ≤ L.holds
+nine_enough L s e =
     let r = shape_of L s e in
-    let a = held-few s.older s.holds (ordered-front 0 0 0 s.older (s.current ∷ []) r.ordered) (held_of L s e) in
+    let a = held-few s.older s.holds (ordered_front 0 0 0 s.older (s.current ∷ []) r.ordered) (held_of L s e) in
     let b = r.few in
     omega arith
 
@@ -94,7 +94,7 @@ collected-length t s =
 -- a collection asked from the clock's time on, with room for as many numbers as there are places, is accepted
 pub collect-accepted : (L : Limits) (s : State) (t room : ℕ) → sound L s ≡ true → s.clock ≤ t → 10 + 8 * L.places ≤ room
     → accepts L (sound L) s (record { request = Asked t COLLECT []; room = room }) ≡ true
-unfolding accepts verdict reply answers rows wellFormed none
+unfolding accepts verdict reply answers rows well_formed none
 collect-accepted L s t room e le h =
     and_both (eqb (verdict L (sound L) s q) 0) _ (eq-eqb _ 0 zero-given) (le-leb (size (reply L (sound L) s q)) room fits)
   where
@@ -102,7 +102,7 @@ collect-accepted L s t room e le h =
     q = Asked t COLLECT []
 
     zero-given : verdict L (sound L) s q ≡ 0
-    zero-given = of-clear (rows_of L (sound L) s q) (ap not e, (refl, (le-ltb t s.clock le, tt)))
+    zero-given = of_clear (rows_of L (sound L) s q) (ap not e, (refl, (le-ltb t s.clock le, tt)))
 
     said : reply L (sound L) s q ≡ granted q s
     said = ap (λ b. cond b (granted q s) (alone (Refused (verdict L (sound L) s q)))) (eq-eqb (verdict L (sound L) s q) 0 zero-given)

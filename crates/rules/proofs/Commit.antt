@@ -20,8 +20,8 @@ use Rattle.rules.specs.Table.{row8, rows}
 use Rattle.rules.specs.Verdict.{CommitExact, MayCommit}
 use Rattle.rules.specs.Words.{stored}
 use Rattle.rules.proofs.Accepted.{passed, positive, row8-clear}
-use Rattle.rules.proofs.Lists.{and_both, and_right, any-in, decide, or-false-left, or-false-right, true-false}
-use Rattle.rules.proofs.Table.{cleared, granted-reply, of-clear}
+use Rattle.rules.proofs.Lists.{and_both, and_right, any_in, decide, or_false-left, or_false_right, true-false}
+use Rattle.rules.proofs.Table.{cleared, granted-reply, of_clear}
 
 module _ (L : Limits) (s : State) (t e slot : ℕ) (l : List ℕ) (room : ℕ) where
   asked : Ask
@@ -38,35 +38,35 @@ module _ (L : Limits) (s : State) (t e slot : ℕ) (l : List ℕ) (room : ℕ) w
       let long = leb-true _ room (and_right (eqb (verdict L (sound L) s asked.request) 0) _ a) in
       let g = ap size (granted-reply L (sound L) s asked a) in
       record {
-        isSound = passed (sound L s) f.0;
+        is_sound = passed (sound L s) f.0;
         formed = passed _ f.1.0;
-        onTime = ltb-false t s.clock f.1.1.0;
-        known = (positive e (ap not (or-false-left (eqb e 0) _ k)), ltb-false s.current.writerEpoch e (or-false-right (eqb e 0) _ k));
-        unfenced = ltb-false e s.current.writerEpoch f.1.1.1.1.0;
-        nextSlot = omega arith;
-        allStored = λ n i. row8-clear t s l f.1.1.1.1.1.1.1.0 n i;
+        on_time = ltb-false t s.clock f.1.1.0;
+        known = (positive e (ap not (or_false-left (eqb e 0) _ k)), ltb-false s.current.writer_epoch e (or_false_right (eqb e 0) _ k));
+        unfenced = ltb-false e s.current.writer_epoch f.1.1.1.1.0;
+        next_slot = omega arith;
+        all_stored = λ n i. row8-clear t s l f.1.1.1.1.1.1.1.0 n i;
         fits = omega arith;
       }
 
-  none-unstored : ((n : ℕ) → n ∈ l → stored s n ≡ true) → row8 s l ≡ false
-  none-unstored f = step (decide (row8 s l))
+  none_unstored : ((n : ℕ) → n ∈ l → stored s n ≡ true) → row8 s l ≡ false
+  none_unstored f = step (decide (row8 s l))
     where
       step : (row8 s l ≡ true) ⊎ (row8 s l ≡ false) → row8 s l ≡ false
-      step (inl q) = let k = any-in (λ n. not (stored s n)) l q in true-false (not (stored s k.0)) k.2 (ap not (f k.0 k.1))
+      step (inl q) = let k = any_in (λ n. not (stored s n)) l q in true-false (not (stored s k.0)) k.2 (ap not (f k.0 k.1))
       step (inr q) = q
 
   accepted : MayCommit L s t e slot l room → accepts L (sound L) s asked ≡ true
   unfolding asked rows accepts verdict reply answers
   accepted m =
       let n = m.known in
-      let z = m.nextSlot in
-      let none = of-clear (rows_of L (sound L) s asked.request) (
-        ap not m.isSound,
+      let z = m.next_slot in
+      let none = of_clear (rows_of L (sound L) s asked.request) (
+        ap not m.is_sound,
         (
           ap not m.formed,
           (
-            le-ltb _ _ m.onTime,
-            (ap₂ ◌||◌ (ne_eqb e 0 (λ q. omega arith)) (le-ltb _ _ m.known.1), (le-ltb _ _ m.unfenced, (lt-leb slot s.current.number (omega arith), (le-ltb (suc s.current.number) slot (omega arith), (none-unstored m.allStored, tt))))),
+            le-ltb _ _ m.on_time,
+            (ap₂ ◌||◌ (ne_eqb e 0 (λ q. omega arith)) (le-ltb _ _ m.known.1), (le-ltb _ _ m.unfenced, (lt-leb slot s.current.number (omega arith), (le-ltb (suc s.current.number) slot (omega arith), (none_unstored m.all_stored, tt))))),
           ),
         ),
       ) in

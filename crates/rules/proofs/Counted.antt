@@ -9,12 +9,12 @@ use lib.ListN.{length}
 use Rattle.rules.specs.declared.Kind.{Kind}
 use Rattle.rules.specs.declared.Kind.TheVariants.{Collect as COLLECT, Commit as COMMIT, Compact as COMPACT, Fence as FENCE, Hold as HOLD, List as LIST, Look as LOOK, Put as PUT, Release as RELEASE, Renew as RENEW}
 use Rattle.rules.specs.declared.Role.TheVariants.{Compactor, Writer}
-use Rattle.rules.specs.History.{Event, History, atTime, currentNumber, feed, historyFrom, isMaker, makers, makesManifest, noted, noted_of}
+use Rattle.rules.specs.History.{Event, History, at_time, current_number, feed, history_from, is_maker, makers, makes_manifest, noted, noted_of}
 use Rattle.rules.specs.Lists.{keep}
 use Rattle.rules.specs.Request.{Asked, Request, Unreadable}
 
 -- a kind that makes a manifest adds one list, and no other does
-noted-count : (t : ℕ) (k : Kind) (l : List ℕ) (h : History) → currentNumber (noted k l (atTime t h)) ≡ cond (makesManifest k) (suc (currentNumber h)) (currentNumber h)
+noted-count : (t : ℕ) (k : Kind) (l : List ℕ) (h : History) → current_number (noted k l (at_time t h)) ≡ cond (makes_manifest k) (suc (current_number h)) (current_number h)
 unfolding noted
 noted-count t (FENCE Writer slot) l h = refl
 noted-count t (FENCE Compactor slot) l h = refl
@@ -28,24 +28,24 @@ noted-count t (LIST x) l h = refl
 noted-count t (LOOK c x) l h = refl
 noted-count t COLLECT l h = refl
 
-request-count : (q : Request) (h : History) → currentNumber (noted_of q h) ≡ cond (isMaker q) (suc (currentNumber h)) (currentNumber h)
+request-count : (q : Request) (h : History) → current_number (noted_of q h) ≡ cond (is_maker q) (suc (current_number h)) (current_number h)
 request-count (Asked t k l) h = noted-count t k l h
 request-count Unreadable h = refl
 
-pub history-count : (h : History) (es : List Event) → currentNumber (historyFrom h es) ≡ currentNumber h + length (makers es)
-unfolding historyFrom feed keep
-history-count h [] = omega arith
-history-count h (e ∷ es) = step e.accepted (isMaker e.request) refl (request-count e.request h) (history-count (feed h e) es)
+pub history_count : (h : History) (es : List Event) → current_number (history_from h es) ≡ current_number h + length (makers es)
+unfolding history_from feed keep
+history_count h [] = omega arith
+history_count h (e ∷ es) = step e.accepted (is_maker e.request) refl (request-count e.request h) (history_count (feed h e) es)
   where
-    step : (b c : Bool) → isMaker e.request ≡ c → currentNumber (noted_of e.request h) ≡ cond (isMaker e.request) (suc (currentNumber h)) (currentNumber h)
-        → currentNumber (historyFrom (cond b (noted_of e.request h) h) es) ≡ currentNumber (cond b (noted_of e.request h) h) + length (makers es)
-        → currentNumber (historyFrom (cond b (noted_of e.request h) h) es) ≡ currentNumber h + length (cond (b && isMaker e.request) (e ∷ makers es) (makers es))
+    step : (b c : Bool) → is_maker e.request ≡ c → current_number (noted_of e.request h) ≡ cond (is_maker e.request) (suc (current_number h)) (current_number h)
+        → current_number (history_from (cond b (noted_of e.request h) h) es) ≡ current_number (cond b (noted_of e.request h) h) + length (makers es)
+        → current_number (history_from (cond b (noted_of e.request h) h) es) ≡ current_number h + length (cond (b && is_maker e.request) (e ∷ makers es) (makers es))
     step false c m n f = f
     step true true m n f =
-        let a = n ∙ ap (λ c. cond c (suc (currentNumber h)) (currentNumber h)) m in
+        let a = n ∙ ap (λ c. cond c (suc (current_number h)) (current_number h)) m in
         let z = ap (λ c. length (cond c (e ∷ makers es) (makers es))) m in
         omega (arith, f, z)
     step true false m n f =
-        let a = n ∙ ap (λ c. cond c (suc (currentNumber h)) (currentNumber h)) m in
+        let a = n ∙ ap (λ c. cond c (suc (current_number h)) (current_number h)) m in
         let z = ap (λ c. length (cond c (e ∷ makers es) (makers es))) m in
         omega (arith, f, z)

@@ -43,8 +43,8 @@ sixth L test s t (LIST x) l slot i = absurd (Memᴰ.not-nil i)
 sixth L test s t (LOOK c x) l slot i = absurd (Memᴰ.not-nil i)
 sixth L test s t COLLECT l slot i = absurd (Memᴰ.not-nil i)
 
-pub last-manifest : (L : Limits) (test : State → Bool) → LastManifest L test
-last-manifest L test s last t k l slot i fits =
+pub last_manifest_lem : (L : Limits) (test : State → Bool) → LastManifest L test
+last_manifest_lem L test s last t k l slot i fits =
     let there = sixth L test s t k l slot i in
     let applies : row6 s slot ≡ true = le-leb slot s.current.number (omega arith) in
     let most = verdict-at-most L test s (Asked t k l) (6 if row6 s slot) there applies in

@@ -12,11 +12,11 @@ use borrow.Author.Tests.{le-leb, eq-eqb, eqb-true}
 use Rattle.rules.specs.declared.Hold.{Hold}
 use Rattle.rules.specs.declared.Object.{Object}
 use Rattle.rules.specs.Lists.{◌∈◌, has, keep, lookup, maximum, sorted}
-use Rattle.rules.specs.State.{Manifest, State, firstManifest, free, kept, objects, occupied}
-use Rattle.rules.specs.Step.{clear, collect, collected, heldBy, place, publish, tidy}
+use Rattle.rules.specs.State.{Manifest, State, first_manifest, free, kept, objects, occupied}
+use Rattle.rules.specs.Step.{clear, collect, collected, held_by, place, publish, tidy}
 use Rattle.rules.specs.Table.{row6}
-use Rattle.rules.specs.Words.{dead, listed, live, liveHolds, manifestOf, pending}
-use Rattle.rules.proofs.Lists.{any_same, in-any, keep-in, keep_same, true-false}
+use Rattle.rules.specs.Words.{dead, listed, live, live_holds, manifest_of, pending}
+use Rattle.rules.proofs.Lists.{any_same, in_any, keep_in, keep_same, true-false}
 
 -- Manifests
 
@@ -34,17 +34,17 @@ module _ {A B : Type 0} (key : A → ℕ) (value : A → B) (default : B) (p : A
       step false q false e r = r ∙ ap (λ b. cond b (value x) (lookup key value default n (xs ++ rest))) (sym e)
 
 -- a hold's manifest is found the same after inactive manifests are dropped
-pub manifest-tidy : (s : State) (x : Hold) → x ∈ s.holds → manifestOf (tidy s) x.manifest ≡ manifestOf s x.manifest
-unfolding manifestOf
+pub manifest-tidy : (s : State) (x : Hold) → x ∈ s.holds → manifest_of (tidy s) x.manifest ≡ manifest_of s x.manifest
+unfolding manifest_of
 manifest-tidy s x i =
-    lookup-keep (λ (m : Manifest). m.number) (λ m. m) firstManifest (heldBy s.holds) x.manifest s.older (s.current ∷ [])
-    (λ m j e. in-any (λ (y : Hold). eqb m.number y.manifest) i (eq-eqb _ _ e))
+    lookup-keep (λ (m : Manifest). m.number) (λ m. m) first_manifest (held_by s.holds) x.manifest s.older (s.current ∷ [])
+    (λ m j e. in_any (λ (y : Hold). eqb m.number y.manifest) i (eq-eqb _ _ e))
 
 pub dead-tidy : (t : ℕ) (s : State) (o : Object) → dead t (tidy s) o ≡ dead t s o
 unfolding dead pending listed
 dead-tidy t s o =
     ap (λ b. not (pending s o) && not (has o.number s.current.names || b))
-    (any_same _ _ (liveHolds t s) (λ x i. ap (λ (m : Manifest). has o.number m.names) (manifest-tidy s x (keep-in (live t) s.holds i).0)))
+    (any_same _ _ (live_holds t s) (λ x i. ap (λ (m : Manifest). has o.number m.names) (manifest-tidy s x (keep_in (live t) s.holds i).0)))
 
 pub collected-tidy : (t : ℕ) (s : State) → collected t (tidy s) ≡ collected t s
 unfolding collected
@@ -54,9 +54,9 @@ collected-tidy t s = ap (λ os. sorted (map (λ (o : Object). o.number) os)) (ke
 pub collect-tidy : (s : State) → tidy (collect s) ≡ collect (tidy s)
 collect-tidy s = λ i. record {
   clock = s.clock;
-  highestCollected = maximum (s.highestCollected ∷ sym (collected-tidy s.clock s) i);
+  highest_collected = maximum (s.highest_collected ∷ sym (collected-tidy s.clock s) i);
   places = same s.places i;
-  older = keep (heldBy s.holds) s.older;
+  older = keep (held_by s.holds) s.older;
   current = s.current;
   holds = s.holds;
 }
@@ -68,15 +68,15 @@ collect-tidy s = λ i. record {
 -- Places
 
 -- the lowest free place, or the number of places where none is free
-unfoldable pub lowestFree : List Object → ℕ
-lowestFree [] = 0
-lowestFree (o ∷ os) = cond (occupied o) (suc (lowestFree os)) 0
+unfoldable pub lowest_free : List Object → ℕ
+lowest_free [] = 0
+lowest_free (o ∷ os) = cond (occupied o) (suc (lowest_free os)) 0
 
-pub place-lowest : (o : Object) (ps : List Object) → place o ps ≡ set ps (lowestFree ps) o
-unfolding place lowestFree
+pub place-lowest : (o : Object) (ps : List Object) → place o ps ≡ set ps (lowest_free ps) o
+unfolding place lowest_free
 place-lowest o [] = refl
 place-lowest o (x ∷ xs) = step (occupied x) (place-lowest o xs)
   where
-    step : (b : Bool) → place o xs ≡ set xs (lowestFree xs) o → cond b (x ∷ place o xs) (o ∷ xs) ≡ set (x ∷ xs) (cond b (suc (lowestFree xs)) 0) o
+    step : (b : Bool) → place o xs ≡ set xs (lowest_free xs) o → cond b (x ∷ place o xs) (o ∷ xs) ≡ set (x ∷ xs) (cond b (suc (lowest_free xs)) 0) o
     step true e = ap (λ l. x ∷ l) e
     step false e = refl

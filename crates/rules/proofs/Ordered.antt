@@ -16,10 +16,10 @@ use Rattle.rules.proofs.Lists.{conj-true, true-conj}
 -- the head of an ordered list, and its tail
 pub record Head (n w c : ℕ) (m : Manifest) (ms : List Manifest) : Type 0 where
   pub number : n ≤ m.number
-  pub writer : w ≤ m.writerEpoch
-  pub compactor : c ≤ m.compactorEpoch
-  pub sum : m.writerEpoch + m.compactorEpoch ≤ m.number
-  pub tail : ordered (suc m.number) m.writerEpoch m.compactorEpoch ms ≡ true
+  pub writer : w ≤ m.writer_epoch
+  pub compactor : c ≤ m.compactor_epoch
+  pub sum : m.writer_epoch + m.compactor_epoch ≤ m.number
+  pub tail : ordered (suc m.number) m.writer_epoch m.compactor_epoch ms ≡ true
 
 pub ordered-head : (n w c : ℕ) (m : Manifest) (ms : List Manifest) → ordered n w c (m ∷ ms) ≡ true → Head n w c m ms
 unfolding ordered
@@ -37,10 +37,10 @@ pub head-ordered : (n w c : ℕ) (m : Manifest) (ms : List Manifest) → Head n 
 unfolding ordered
 head-ordered n w c m ms k = true-conj _ (le-leb _ _ k.number, (le-leb _ _ k.writer, (le-leb _ _ k.compactor, (le-leb _ _ k.sum, (k.tail, tt)))))
 
-pub ordered-lower : (n w c n' w' c' : ℕ) (ms : List Manifest) → n' ≤ n → w' ≤ w → c' ≤ c → ordered n w c ms ≡ true → ordered n' w' c' ms ≡ true
+pub ordered_lower : (n w c n' w' c' : ℕ) (ms : List Manifest) → n' ≤ n → w' ≤ w → c' ≤ c → ordered n w c ms ≡ true → ordered n' w' c' ms ≡ true
 unfolding ordered
-ordered-lower n w c n' w' c' [] hn hw hc e = refl
-ordered-lower n w c n' w' c' (m ∷ ms) hn hw hc e =
+ordered_lower n w c n' w' c' [] hn hw hc e = refl
+ordered_lower n w c n' w' c' (m ∷ ms) hn hw hc e =
     let k = ordered-head n w c m ms e in
     head-ordered n' w' c' m ms (record {
       number = let x = k.number in omega arith;
@@ -54,36 +54,36 @@ ordered-lower n w c n' w' c' (m ∷ ms) hn hw hc e =
 pub ordered-keep : (p : Manifest → Bool) (n w c : ℕ) (ms rest : List Manifest) → ordered n w c (ms ++ rest) ≡ true → ordered n w c (keep p ms ++ rest) ≡ true
 unfolding keep
 ordered-keep p n w c [] rest e = e
-ordered-keep p n w c (m ∷ ms) rest e = step (p m) (ordered-keep p (suc m.number) m.writerEpoch m.compactorEpoch ms rest k.tail)
+ordered-keep p n w c (m ∷ ms) rest e = step (p m) (ordered-keep p (suc m.number) m.writer_epoch m.compactor_epoch ms rest k.tail)
   where
     k : Head n w c m (ms ++ rest)
     k = ordered-head n w c m (ms ++ rest) e
 
-    step : (b : Bool) → ordered (suc m.number) m.writerEpoch m.compactorEpoch (keep p ms ++ rest) ≡ true → ordered n w c (cond b (m ∷ keep p ms) (keep p ms) ++ rest) ≡ true
+    step : (b : Bool) → ordered (suc m.number) m.writer_epoch m.compactor_epoch (keep p ms ++ rest) ≡ true → ordered n w c (cond b (m ∷ keep p ms) (keep p ms) ++ rest) ≡ true
     step true r = head-ordered n w c m (keep p ms ++ rest) (record { number = k.number; writer = k.writer; compactor = k.compactor; sum = k.sum; tail = r })
     step false r = let x = k.number in
-        ordered-lower (suc m.number) m.writerEpoch m.compactorEpoch n w c (keep p ms ++ rest) (omega arith) k.writer k.compactor r
+        ordered_lower (suc m.number) m.writer_epoch m.compactor_epoch n w c (keep p ms ++ rest) (omega arith) k.writer k.compactor r
 
 -- the first manifests alone
-pub ordered-front : (n w c : ℕ) (ms rest : List Manifest) → ordered n w c (ms ++ rest) ≡ true → ordered n w c ms ≡ true
+pub ordered_front : (n w c : ℕ) (ms rest : List Manifest) → ordered n w c (ms ++ rest) ≡ true → ordered n w c ms ≡ true
 unfolding ordered
-ordered-front n w c [] rest e = refl
-ordered-front n w c (m ∷ ms) rest e =
+ordered_front n w c [] rest e = refl
+ordered_front n w c (m ∷ ms) rest e =
     let k = ordered-head n w c m (ms ++ rest) e in
     head-ordered n w c m ms (record {
       number = k.number;
       writer = k.writer;
       compactor = k.compactor;
       sum = k.sum;
-      tail = ordered-front (suc m.number) m.writerEpoch m.compactorEpoch ms rest k.tail;
+      tail = ordered_front (suc m.number) m.writer_epoch m.compactor_epoch ms rest k.tail;
     })
 
 -- one manifest more
-pub ordered-add : (n w c : ℕ) (ms : List Manifest) (cur new : Manifest) → ordered n w c (ms ++ (cur ∷ [])) ≡ true
-    → suc cur.number ≤ new.number → cur.writerEpoch ≤ new.writerEpoch → cur.compactorEpoch ≤ new.compactorEpoch
-    → new.writerEpoch + new.compactorEpoch ≤ new.number → ordered n w c ((ms ++ (cur ∷ [])) ++ (new ∷ [])) ≡ true
+pub ordered_add : (n w c : ℕ) (ms : List Manifest) (cur new : Manifest) → ordered n w c (ms ++ (cur ∷ [])) ≡ true
+    → suc cur.number ≤ new.number → cur.writer_epoch ≤ new.writer_epoch → cur.compactor_epoch ≤ new.compactor_epoch
+    → new.writer_epoch + new.compactor_epoch ≤ new.number → ordered n w c ((ms ++ (cur ∷ [])) ++ (new ∷ [])) ≡ true
 unfolding ordered
-ordered-add n w c [] cur new e a b d f =
+ordered_add n w c [] cur new e a b d f =
     let k = ordered-head n w c cur [] e in
     head-ordered n w c cur (new ∷ []) (record {
       number = k.number;
@@ -92,19 +92,19 @@ ordered-add n w c [] cur new e a b d f =
       sum = k.sum;
       tail = head-ordered _ _ _ new [] (record { number = a; writer = b; compactor = d; sum = f; tail = refl });
     })
-ordered-add n w c (m ∷ ms) cur new e a b d f =
+ordered_add n w c (m ∷ ms) cur new e a b d f =
     let k = ordered-head n w c m (ms ++ (cur ∷ [])) e in
     head-ordered n w c m ((ms ++ (cur ∷ [])) ++ (new ∷ [])) (record {
       number = k.number;
       writer = k.writer;
       compactor = k.compactor;
       sum = k.sum;
-      tail = ordered-add (suc m.number) m.writerEpoch m.compactorEpoch ms cur new k.tail a b d f;
+      tail = ordered_add (suc m.number) m.writer_epoch m.compactor_epoch ms cur new k.tail a b d f;
     })
 
-pub ordered-above : (n w c : ℕ) (ms : List Manifest) (m : Manifest) → ordered n w c ms ≡ true → m ∈ ms → n ≤ m.number
-ordered-above n w c [] m e i = absurd (Memᴰ.not-nil i)
-ordered-above n w c (q ∷ qs) m e i = step (Memᴰ.cases_cons i) (ordered-above (suc q.number) q.writerEpoch q.compactorEpoch qs m k.tail)
+pub ordered_above : (n w c : ℕ) (ms : List Manifest) (m : Manifest) → ordered n w c ms ≡ true → m ∈ ms → n ≤ m.number
+ordered_above n w c [] m e i = absurd (Memᴰ.not-nil i)
+ordered_above n w c (q ∷ qs) m e i = step (Memᴰ.cases_cons i) (ordered_above (suc q.number) q.writer_epoch q.compactor_epoch qs m k.tail)
   where
     k : Head n w c q qs
     k = ordered-head n w c q qs e
@@ -113,27 +113,27 @@ ordered-above n w c (q ∷ qs) m e i = step (Memᴰ.cases_cons i) (ordered-above
     step (inl p) f = let x = k.number in let y = ap (λ (m : Manifest). m.number) p in omega arith
     step (inr j) f = let x = k.number in let y = f j in omega arith
 
-pub ordered-sum : (n w c : ℕ) (ms : List Manifest) (m : Manifest) → ordered n w c ms ≡ true → m ∈ ms → m.writerEpoch + m.compactorEpoch ≤ m.number
-ordered-sum n w c [] m e i = absurd (Memᴰ.not-nil i)
-ordered-sum n w c (q ∷ qs) m e i = step (Memᴰ.cases_cons i) (ordered-sum (suc q.number) q.writerEpoch q.compactorEpoch qs m k.tail)
+pub ordered_sum : (n w c : ℕ) (ms : List Manifest) (m : Manifest) → ordered n w c ms ≡ true → m ∈ ms → m.writer_epoch + m.compactor_epoch ≤ m.number
+ordered_sum n w c [] m e i = absurd (Memᴰ.not-nil i)
+ordered_sum n w c (q ∷ qs) m e i = step (Memᴰ.cases_cons i) (ordered_sum (suc q.number) q.writer_epoch q.compactor_epoch qs m k.tail)
   where
     k : Head n w c q qs
     k = ordered-head n w c q qs e
 
-    step : (m ≡ q) ⊎ (m ∈ qs) → (m ∈ qs → m.writerEpoch + m.compactorEpoch ≤ m.number) → m.writerEpoch + m.compactorEpoch ≤ m.number
-    step (inl p) f = let x = k.sum in let y = ap (λ (m : Manifest). m.number) p in let z = ap (λ (m : Manifest). m.writerEpoch + m.compactorEpoch) p in omega arith
+    step : (m ≡ q) ⊎ (m ∈ qs) → (m ∈ qs → m.writer_epoch + m.compactor_epoch ≤ m.number) → m.writer_epoch + m.compactor_epoch ≤ m.number
+    step (inl p) f = let x = k.sum in let y = ap (λ (m : Manifest). m.number) p in let z = ap (λ (m : Manifest). m.writer_epoch + m.compactor_epoch) p in omega arith
     step (inr j) f = f j
 
 -- no number twice
 pub ordered-unique : (n w c : ℕ) (ms : List Manifest) (m q : Manifest) → ordered n w c ms ≡ true → m ∈ ms → q ∈ ms → m.number ≡ q.number → m ≡ q
 ordered-unique n w c [] m q e i j s = absurd (Memᴰ.not-nil i)
-ordered-unique n w c (x ∷ xs) m q e i j s = step (Memᴰ.cases_cons i) (Memᴰ.cases_cons j) (λ a b. ordered-unique (suc x.number) x.writerEpoch x.compactorEpoch xs m q k.tail a b s)
+ordered-unique n w c (x ∷ xs) m q e i j s = step (Memᴰ.cases_cons i) (Memᴰ.cases_cons j) (λ a b. ordered-unique (suc x.number) x.writer_epoch x.compactor_epoch xs m q k.tail a b s)
   where
     k : Head n w c x xs
     k = ordered-head n w c x xs e
 
     above : (y : Manifest) → y ∈ xs → suc x.number ≤ y.number
-    above y l = ordered-above (suc x.number) x.writerEpoch x.compactorEpoch xs y k.tail l
+    above y l = ordered_above (suc x.number) x.writer_epoch x.compactor_epoch xs y k.tail l
 
     step : (m ≡ x) ⊎ (m ∈ xs) → (q ≡ x) ⊎ (q ∈ xs) → (m ∈ xs → q ∈ xs → m ≡ q) → m ≡ q
     step (inl a) (inl b) f = a ∙ sym b

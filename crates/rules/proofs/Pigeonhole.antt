@@ -12,16 +12,16 @@ use lib.ListN.{length}
 use borrow.Author.Tests.{eqb-true, eqb-false, not-true}
 use Rattle.rules.specs.Lists.{◌∈◌, distinct, has}
 use Rattle.rules.proofs.Lists.{and_left, and_right, true-false}
-use Rattle.rules.proofs.Numbers.{in-has}
+use Rattle.rules.proofs.Numbers.{in_has}
 
 remove : ℕ → List ℕ → List ℕ
 remove n [] = []
 remove n (k ∷ ks) = cond (eqb n k) ks (k ∷ remove n ks)
 
-remove-length : (n : ℕ) (ks : List ℕ) → n ∈ ks → length ks ≡ suc (length (remove n ks))
+remove_length : (n : ℕ) (ks : List ℕ) → n ∈ ks → length ks ≡ suc (length (remove n ks))
 unfolding remove
-remove-length n [] i = absurd (Memᴰ.not-nil i)
-remove-length n (k ∷ ks) i = step (eqb n k) refl (Memᴰ.cases_cons i) (remove-length n ks)
+remove_length n [] i = absurd (Memᴰ.not-nil i)
+remove_length n (k ∷ ks) i = step (eqb n k) refl (Memᴰ.cases_cons i) (remove_length n ks)
   where
     step : (b : Bool) → eqb n k ≡ b → (n ≡ k) ⊎ (n ∈ ks) → (n ∈ ks → length ks ≡ suc (length (remove n ks))) → suc (length ks) ≡ suc (length (cond b ks (k ∷ remove n ks)))
     step true q w f = refl
@@ -44,6 +44,6 @@ unfolding distinct
 pigeonhole [] ks e f = omega arith
 pigeonhole (n ∷ ns) ks e f =
     let absent = not-true (has n ns) (and_left (not (has n ns)) _ e) in
-    let a = remove-length n ks (f n (Memᴰ.head refl)) in
-    let b = pigeonhole ns (remove n ks) (and_right (not (has n ns)) _ e) (λ x i. in_remove n x ks (f x (Memᴰ.tail i)) (λ q. true-false (has n ns) (in-has (Memᴰ.cast (sym q) i)) absent)) in
+    let a = remove_length n ks (f n (Memᴰ.head refl)) in
+    let b = pigeonhole ns (remove n ks) (and_right (not (has n ns)) _ e) (λ x i. in_remove n x ks (f x (Memᴰ.tail i)) (λ q. true-false (has n ns) (in_has (Memᴰ.cast (sym q) i)) absent)) in
     omega arith

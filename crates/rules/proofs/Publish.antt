@@ -15,53 +15,53 @@ use Rattle.rules.specs.declared.Object.{Object}
 use Rattle.rules.specs.declared.Role.{Role}
 use Rattle.rules.specs.declared.Role.TheVariants.{Compactor, Writer}
 use Rattle.rules.specs.Agreement.{Agrees, Match, Objects, Safe}
-use Rattle.rules.specs.History.{History, Stored, compactedAt, currencyAt, fenceNoted, listAt, listed_at, lists, liveAt, namedAbove, nextManifest, stored_at}
+use Rattle.rules.specs.History.{History, Stored, compacted_at, currency_at, fence_noted, list_at, listed_at, lists, live_at, named_above, next_manifest, stored_at}
 use Rattle.rules.specs.Limits.{Limits}
 use Rattle.rules.specs.Lists.{◌∈◌, all, any, has, insert, keep}
 use Rattle.rules.specs.State.{Manifest, State, kept, occupied}
 use Rattle.rules.specs.Step.{commit, fence, mark, publish}
-use Rattle.rules.specs.Words.{compacted, currencyOf, live, stored}
+use Rattle.rules.specs.Words.{compacted, currency_of, live, stored}
 use Rattle.rules.proofs.Agreement.{currency-same, stored_same}
-use Rattle.rules.proofs.Lists.{any-in, in-any, in-keep, keep-in, keep_same, or_cases, or_left, or_right}
-use Rattle.rules.proofs.Numbers.{has_in, in-has, insert-in}
+use Rattle.rules.proofs.Lists.{any_in, in_any, in_keep, keep_in, keep_same, or_cases, or_left, or_right}
+use Rattle.rules.proofs.Numbers.{has_in, in_has, insert_in}
 
 -- the lists before the new one keep their numbers
-pub listAt-past : (k : ℕ) (l : List ℕ) (ls : List (List ℕ)) → k < length ls → listAt k (l ∷ ls) ≡ listAt k ls
-unfolding listAt
-listAt-past k l ls h = rw (ne_eqb k (length ls) (λ e. omega arith))
+pub list_at-past : (k : ℕ) (l : List ℕ) (ls : List (List ℕ)) → k < length ls → list_at k (l ∷ ls) ≡ list_at k ls
+unfolding list_at
+list_at-past k l ls h = rw (ne_eqb k (length ls) (λ e. omega arith))
 
-pub listAt-new : (k : ℕ) (l : List ℕ) (ls : List (List ℕ)) → k ≡ length ls → listAt k (l ∷ ls) ≡ l
-unfolding listAt
-listAt-new k l ls e = rw (eq-eqb k (length ls) e)
+pub list_at_new : (k : ℕ) (l : List ℕ) (ls : List (List ℕ)) → k ≡ length ls → list_at k (l ∷ ls) ≡ l
+unfolding list_at
+list_at_new k l ls e = rw (eq-eqb k (length ls) e)
 
-match-more : (l : List ℕ) (ls : List (List ℕ)) (o : Object) (p : Stored) → Match ls o p → Match (l ∷ ls) (mark l o) p
-unfolding namedAbove
-match-more l ls o p m = record {
+match_more : (l : List ℕ) (ls : List (List ℕ)) (o : Object) (p : Stored) → Match ls o p → Match (l ∷ ls) (mark l o) p
+unfolding named_above
+match_more l ls o p m = record {
   number = m.number;
   role = m.role;
   epoch = m.epoch;
   currency = m.currency;
-  named = ap₂ ◌||◌ m.named (ap (λ n. has n l) m.number) ∙ or_comm (namedAbove p.since p.number ls) (has p.number l)
-      ∙ ap (λ b. b && has p.number l || namedAbove p.since p.number ls) (sym (lt-ltb p.since (length ls) m.since));
+  named = ap₂ ◌||◌ m.named (ap (λ n. has n l) m.number) ∙ or_comm (named_above p.since p.number ls) (has p.number l)
+      ∙ ap (λ b. b && has p.number l || named_above p.since p.number ls) (sym (lt-ltb p.since (length ls) m.since));
   since = let h = m.since in omega arith;
 }
 
 module _ (l : List ℕ) (ps : List Object) where
   pub mark-from : (o : Object) → o ∈ keep occupied (map (mark l) ps) → (q : Object) × (q ∈ keep occupied ps) × (mark l q ≡ o)
   mark-from o i =
-      let k = keep-in occupied (map (mark l) ps) i in
+      let k = keep_in occupied (map (mark l) ps) i in
       let m = Memᴰ.of_map (mark l) ps k.0 in
-      (m.0, in-keep occupied m.1 (ap occupied m.2 ∙ k.1), m.2)
+      (m.0, in_keep occupied m.1 (ap occupied m.2 ∙ k.1), m.2)
 
   pub mark-to : (o : Object) → o ∈ keep occupied ps → mark l o ∈ keep occupied (map (mark l) ps)
-  mark-to o i = let k = keep-in occupied ps i in in-keep occupied (Memᴰ.map (mark l) k.0) k.1
+  mark-to o i = let k = keep_in occupied ps i in in_keep occupied (Memᴰ.map (mark l) k.0) k.1
 
 objects-marked : {L : Limits} (l : List ℕ) (ps : List Object) (puts : List Stored) (ls : List (List ℕ)) → Objects L ps puts ls → Objects L (map (mark l) ps) puts (l ∷ ls)
 objects-marked l ps puts ls r = record {
   size = length-map ps (mark l) ∙ r.size;
   noted = λ o i. let m = mark-from l ps o i in let f = r.noted m.0 m.1 in
-      (f.0, f.1, subst (λ o. Match (l ∷ ls) o f.0) m.2 (match-more l ls m.0 f.0 f.2));
-  found = λ p i. let f = r.found p i in (mark l f.0, mark-to l ps f.0 f.1, match-more l ls f.0 p f.2);
+      (f.0, f.1, subst (λ o. Match (l ∷ ls) o f.0) m.2 (match_more l ls m.0 f.0 f.2));
+  found = λ p i. let f = r.found p i in (mark l f.0, mark-to l ps f.0 f.1, match_more l ls f.0 p f.2);
   unique = λ o q i j e. let m = mark-from l ps o i in let n = mark-from l ps q j in
       sym m.2 ∙ ap (mark l) (r.unique m.0 n.0 m.1 n.1 (ap (λ (o : Object). o.number) m.2 ∙ e ∙ sym (ap (λ (o : Object). o.number) n.2))) ∙ n.2;
 }
@@ -70,24 +70,24 @@ objects-marked l ps puts ls r = record {
 pub held-past : {L : Limits} (s : State) (h : History) → Agrees L s h → (x : Hold) → x ∈ s.holds → x.manifest < length (lists h)
 held-past s h r x i = let f = r.manifests.held x i in subst (λ k. k < length (lists h)) f.2 (r.manifests.past f.0 f.1)
 
-publish-safe : {L : Limits} (s : State) (h : History) → Agrees L s h → (w c : ℕ) (l : List ℕ) → ((n : ℕ) → has n l ≡ true → stored_at h n ≡ true) → Safe (nextManifest w c l h)
+publish-safe : {L : Limits} (s : State) (h : History) → Agrees L s h → (w c : ℕ) (l : List ℕ) → ((n : ℕ) → has n l ≡ true → stored_at h n ≡ true) → Safe (next_manifest w c l h)
 unfolding listed_at stored_at live
 publish-safe s h r w c l all n e = step (or_cases (has n l) _ e)
   where
     named : List (List ℕ) → Hold → Bool
-    named ls x = has n (listAt x.manifest ls)
+    named ls x = has n (list_at x.manifest ls)
 
-    step : (has n l ≡ true) ⊎ (any (named (l ∷ lists h)) (keep (liveAt h.time) h.holds) ≡ true) → stored_at h n ≡ true
+    step : (has n l ≡ true) ⊎ (any (named (l ∷ lists h)) (keep (live_at h.time) h.holds) ≡ true) → stored_at h n ≡ true
     step (inl p) = all n p
     step (inr p) =
-        let k = any-in (named (l ∷ lists h)) (keep (liveAt h.time) h.holds) p in
-        let i = keep-in (liveAt h.time) h.holds k.1 in
+        let k = any_in (named (l ∷ lists h)) (keep (live_at h.time) h.holds) p in
+        let i = keep_in (live_at h.time) h.holds k.1 in
         let x = r.holding.found k.0 i.0 (ap (λ t. live t k.0) r.clock ∙ i.1) in
-        let same = listAt-past k.0.manifest l (lists h) (held-past s h r k.0 x) in
-        r.safe n (or_right (has n h.current) _ (in-any (named (lists h)) k.1 (ap (has n) (sym same) ∙ k.2)))
+        let same = list_at-past k.0.manifest l (lists h) (held-past s h r k.0 x) in
+        r.safe n (or_right (has n h.current) _ (in_any (named (lists h)) k.1 (ap (has n) (sym same) ∙ k.2)))
 
 publish-keeps : {L : Limits} (s : State) (h : History) → Agrees L s h → (w c w' c' : ℕ) → w ≡ w' → c ≡ c' → (l : List ℕ)
-    → ((n : ℕ) → has n l ≡ true → stored_at h n ≡ true) → Agrees L (publish w c l s) (nextManifest w' c' l h)
+    → ((n : ℕ) → has n l ≡ true → stored_at h n ≡ true) → Agrees L (publish w c l s) (next_manifest w' c' l h)
 publish-keeps s h r w c w' c' ew ec l all = record {
   clock = r.clock;
   number = ap suc r.number;
@@ -107,9 +107,9 @@ publish-keeps s h r w c w' c' ew ec l all = record {
     new : Manifest
     new = (publish w c l s).current
 
-    noted : (m : Manifest) → (m ∈ kept s) ⊎ (m ∈ (new ∷ [])) → m.names ≡ listAt m.number (l ∷ lists h)
-    noted m (inl i) = r.manifests.noted m i ∙ sym (listAt-past m.number l (lists h) (r.manifests.past m i))
-    noted m (inr i) = let e = Memᴰ.eq_of_singleton i in ap (λ (m : Manifest). m.names) e ∙ sym (listAt-new m.number l (lists h) (ap (λ (m : Manifest). m.number) e ∙ ap suc r.number))
+    noted : (m : Manifest) → (m ∈ kept s) ⊎ (m ∈ (new ∷ [])) → m.names ≡ list_at m.number (l ∷ lists h)
+    noted m (inl i) = r.manifests.noted m i ∙ sym (list_at-past m.number l (lists h) (r.manifests.past m i))
+    noted m (inr i) = let e = Memᴰ.eq_of_singleton i in ap (λ (m : Manifest). m.names) e ∙ sym (list_at_new m.number l (lists h) (ap (λ (m : Manifest). m.number) e ∙ ap suc r.number))
 
     past : (m : Manifest) → (m ∈ kept s) ⊎ (m ∈ (new ∷ [])) → m.number < length (l ∷ lists h)
     past m (inl i) = let b = r.manifests.past m i in omega arith
@@ -120,41 +120,41 @@ pub current-stored : {L : Limits} (s : State) (h : History) → Agrees L s h →
 unfolding listed_at
 current-stored s h r n e = r.safe n (or_left (has n h.current) _ (ap (has n) (sym r.names) ∙ e))
 
-pub fence-keeps : {L : Limits} (role : Role) (s : State) (h : History) → Agrees L s h → Agrees L (fence role s) (fenceNoted role h)
+pub fence-keeps : {L : Limits} (role : Role) (s : State) (h : History) → Agrees L s h → Agrees L (fence role s) (fence_noted role h)
 fence-keeps {L} Writer s h r =
-    subst (λ l. Agrees L (fence Writer s) (nextManifest (suc h.writerEpoch) h.compactorEpoch l h)) r.names
+    subst (λ l. Agrees L (fence Writer s) (next_manifest (suc h.writer_epoch) h.compactor_epoch l h)) r.names
     (publish-keeps s h r _ _ _ _ (ap suc r.writer) r.compactor s.current.names (current-stored s h r))
 fence-keeps {L} Compactor s h r =
-    subst (λ l. Agrees L (fence Compactor s) (nextManifest h.writerEpoch (suc h.compactorEpoch) l h)) r.names
+    subst (λ l. Agrees L (fence Compactor s) (next_manifest h.writer_epoch (suc h.compactor_epoch) l h)) r.names
     (publish-keeps s h r _ _ _ _ r.writer (ap suc r.compactor) s.current.names (current-stored s h r))
 
 pub commit-keeps : {L : Limits} (l : List ℕ) (s : State) (h : History) → Agrees L s h → ((n : ℕ) → has n l ≡ true → stored s n ≡ true)
-    → Agrees L (commit l s) (nextManifest h.writerEpoch h.compactorEpoch l h)
+    → Agrees L (commit l s) (next_manifest h.writer_epoch h.compactor_epoch l h)
 commit-keeps l s h r all = publish-keeps s h r _ _ _ _ r.writer r.compactor l (λ n e. sym (stored_same s h r n) ∙ all n e)
 
-pub compact-keeps : {L : Limits} (n : ℕ) (s : State) (h : History) → Agrees L s h → stored s n ≡ true
+pub compact_keeps : {L : Limits} (n : ℕ) (s : State) (h : History) → Agrees L s h → stored s n ≡ true
     → Agrees L (commit (compacted s n) s)
-    (nextManifest h.writerEpoch h.compactorEpoch (compactedAt h n) h)
+    (next_manifest h.writer_epoch h.compactor_epoch (compacted_at h n) h)
 unfolding compacted
-compact-keeps {L} n s h r e =
-    subst (λ l. Agrees L (commit (compacted s n) s) (nextManifest h.writerEpoch h.compactorEpoch l h))
+compact_keeps {L} n s h r e =
+    subst (λ l. Agrees L (commit (compacted s n) s) (next_manifest h.writer_epoch h.compactor_epoch l h))
     same (commit-keeps (compacted s n) s h r all)
   where
     out : ℕ → Bool
-    out m = not (eqb (currencyOf s m) (currencyOf s n))
+    out m = not (eqb (currency_of s m) (currency_of s n))
 
-    in-current : (m : ℕ) → m ∈ s.current.names → stored s m ≡ true
-    in-current m i = stored_same s h r m ∙ current-stored s h r m (in-has i)
+    in_current_lem : (m : ℕ) → m ∈ s.current.names → stored s m ≡ true
+    in_current_lem m i = stored_same s h r m ∙ current-stored s h r m (in_has i)
 
-    same : compacted s n ≡ compactedAt h n
+    same : compacted s n ≡ compacted_at h n
     same = ap (insert n)
-        (keep_same out (λ m. not (eqb (currencyAt h m) (currencyAt h n))) s.current.names
-        (λ m i. ap₂ (λ a b. not (eqb a b)) (currency-same s h r m (in-current m i)) (currency-same s h r n e))
-        ∙ ap (keep (λ m. not (eqb (currencyAt h m) (currencyAt h n)))) r.names)
+        (keep_same out (λ m. not (eqb (currency_at h m) (currency_at h n))) s.current.names
+        (λ m i. ap₂ (λ a b. not (eqb a b)) (currency-same s h r m (in_current_lem m i)) (currency-same s h r n e))
+        ∙ ap (keep (λ m. not (eqb (currency_at h m) (currency_at h n)))) r.names)
 
     all : (m : ℕ) → has m (compacted s n) ≡ true → stored s m ≡ true
-    all m i = step (insert-in n (keep out s.current.names) (has_in m _ i))
+    all m i = step (insert_in n (keep out s.current.names) (has_in m _ i))
       where
         step : (m ≡ n) ⊎ (m ∈ keep out s.current.names) → stored s m ≡ true
         step (inl q) = ap (stored s) q ∙ e
-        step (inr j) = in-current m (keep-in out s.current.names j).0
+        step (inr j) = in_current_lem m (keep_in out s.current.names j).0

@@ -13,14 +13,14 @@ use borrow.Author.Tests.{eq-eqb, le-ltb}
 use Rattle.rules.specs.declared.Object.{Object}
 use Rattle.rules.specs.declared.Role.{Role}
 use Rattle.rules.specs.Agreement.{Agrees, Match, Objects, Safe}
-use Rattle.rules.specs.History.{History, Stored, currentNumber, listed_at, lists, namedAbove, stored_at, withObjects}
+use Rattle.rules.specs.History.{History, Stored, current_number, listed_at, lists, named_above, stored_at, with_objects}
 use Rattle.rules.specs.Limits.{Limits}
 use Rattle.rules.specs.Lists.{◌∈◌, keep}
 use Rattle.rules.specs.State.{State, kept, objects, occupied}
 use Rattle.rules.specs.Step.{place, put}
 use Rattle.rules.specs.Table.{nonzero}
 use Rattle.rules.specs.Words.{stored}
-use Rattle.rules.proofs.Lists.{any-in, in-any, in-keep, keep-in, true-false}
+use Rattle.rules.proofs.Lists.{any_in, in_any, in_keep, keep_in, true-false}
 
 module _ (o : Object) where
   pub place-length : (ps : List Object) → length (place o ps) ≡ length ps
@@ -72,8 +72,8 @@ module _ (o : Object) where
       step false h f = Memᴰ.head refl
 
 -- no manifest is above the current one
-named_none : (since n : ℕ) (ls : List (List ℕ)) → length ls ≤ suc since → namedAbove since n ls ≡ false
-unfolding namedAbove
+named_none : (since n : ℕ) (ls : List (List ℕ)) → length ls ≤ suc since → named_above since n ls ≡ false
+unfolding named_above
 named_none since n [] h = refl
 named_none since n (l ∷ ls) h = rw (le-ltb since (length ls) (omega arith), named_none since n ls (omega arith))
 
@@ -81,22 +81,22 @@ module _ {L : Limits} (s : State) (h : History) (r : Agrees L s h) (o : Object) 
     (nonzero : occupied o ≡ true) (new : stored s o.number ≡ false) (room : length (objects s) < L.places) where
   placed : o ∈ keep occupied (place o s.places)
   placed = let z = r.things.size in
-      in-keep occupied (place_in o s.places (omega arith)) nonzero
+      in_keep occupied (place_in o s.places (omega arith)) nonzero
 
   from : (q : Object) → q ∈ keep occupied (place o s.places) → (q ≡ o) ⊎ (q ∈ objects s)
-  from q i = let k = keep-in occupied (place o s.places) i in step k.1 (place-from o q s.places k.0)
+  from q i = let k = keep_in occupied (place o s.places) i in step k.1 (place-from o q s.places k.0)
     where
       step : occupied q ≡ true → (q ≡ o) ⊎ (q ∈ s.places) → (q ≡ o) ⊎ (q ∈ objects s)
       step t (inl e) = inl e
-      step t (inr j) = inr (in-keep occupied j t)
+      step t (inr j) = inr (in_keep occupied j t)
 
   to : (q : Object) → q ∈ objects s → q ∈ keep occupied (place o s.places)
-  to q i = let k = keep-in occupied s.places i in in-keep occupied (place-to o q s.places k.0 k.1) k.1
+  to q i = let k = keep_in occupied s.places i in in_keep occupied (place-to o q s.places k.0 k.1) k.1
 
   -- no stored object has the number of the one put
   clash : {C : Type 0} (q : Object) → q ∈ objects s → o.number ≡ q.number → C
   unfolding stored
-  clash q i e = true-false _ (in-any (λ (q : Object). eqb o.number q.number) i (eq-eqb _ _ e)) new
+  clash q i e = true-false _ (in_any (λ (q : Object). eqb o.number q.number) i (eq-eqb _ _ e)) new
 
   put-objects : Objects L (place o s.places) (p ∷ h.objects) (lists h)
   put-objects = record {
@@ -120,12 +120,12 @@ module _ {L : Limits} (s : State) (h : History) (r : Agrees L s h) (o : Object) 
       unique q q' e (inr a) (inl b) = clash q a (sym (ap (λ (o : Object). o.number) b) ∙ sym e)
       unique q q' e (inr a) (inr b) = r.things.unique q q' a b e
 
-  put-safe : Safe (withObjects h (p ∷ h.objects))
+  put-safe : Safe (with_objects h (p ∷ h.objects))
   unfolding listed_at stored_at
-  put-safe n e = let k = any-in (λ (p : Stored). eqb n p.number) h.objects (r.safe n e) in
-      in-any (λ (p : Stored). eqb n p.number) (Memᴰ.tail k.1) k.2
+  put-safe n e = let k = any_in (λ (p : Stored). eqb n p.number) h.objects (r.safe n e) in
+      in_any (λ (p : Stored). eqb n p.number) (Memᴰ.tail k.1) k.2
 
-  put-agrees : Agrees L (put o s) (withObjects h (p ∷ h.objects))
+  put-agrees : Agrees L (put o s) (with_objects h (p ∷ h.objects))
   put-agrees = record {
     clock = r.clock;
     number = r.number;
@@ -140,7 +140,7 @@ module _ {L : Limits} (s : State) (h : History) (r : Agrees L s h) (o : Object) 
 
 pub put_keeps : {L : Limits} (s : State) (h : History) → Agrees L s h → (role : Role) (e n c : ℕ) → eqb n 0 ≡ false → stored s n ≡ false → length (objects s) < L.places
     → Agrees L (put (record { number = n; role = role; epoch = e; currency = c; named = false }) s)
-    (withObjects h (record { number = n; role = role; epoch = e; currency = c; since = currentNumber h } ∷ h.objects))
+    (with_objects h (record { number = n; role = role; epoch = e; currency = c; since = current_number h } ∷ h.objects))
 put_keeps s h r role e n c nonzero new room = put-agrees s h r _ _
     (record { number = refl; role = refl; epoch = refl; currency = refl; named = sym (named_none (length h.past) n (lists h) (omega arith)); since = omega arith })
     (ap not nonzero) new room

@@ -11,17 +11,17 @@ use borrow.Author.Tests.{leb-false, ltb-false, le-leb, lt-leb, eq-eqb, not-true}
 use Rattle.rules.specs.declared.Answer.TheVariants.{Refused}
 use Rattle.rules.specs.declared.Kind.{Kind}
 use Rattle.rules.specs.declared.Kind.TheVariants.{Collect as COLLECT, Commit as COMMIT, Compact as COMPACT, Fence as FENCE, Hold as HOLD, List as LIST, Look as LOOK, Put as PUT, Release as RELEASE, Renew as RENEW}
-use Rattle.rules.specs.Demand3.{eventsFrom}
-use Rattle.rules.specs.Limits.{Limits, firstLimits, limits}
-use Rattle.rules.specs.Raised.{KeepsVerdicts, OldVerdictsKept, Raised, meets, neverMet, repliesFrom}
+use Rattle.rules.specs.Demand3.{events_from}
+use Rattle.rules.specs.Limits.{Limits, first_limits, limits}
+use Rattle.rules.specs.Raised.{KeepsVerdicts, OldVerdictsKept, Raised, meets, never_met, replies_from}
 use Rattle.rules.specs.Request.{Ask, Asked, Request, Unreadable}
 use Rattle.rules.specs.Sound.{sound}
-use Rattle.rules.specs.State.{State, epochOf, free, freshIn, objects}
-use Rattle.rules.specs.Step.{accepts, alone, effect, next, reply, size, verdict, withPlaces}
-use Rattle.rules.specs.Table.{Row, ◌if◌, first_of, row10, row11, row2, row3, row4, row9, rows, wellFormed}
-use Rattle.rules.specs.Words.{active, currencyOf, isLive, manifestOf, ofCurrency, read_by, stored}
-use Rattle.rules.proofs.Depot.{week-unmet}
-use Rattle.rules.proofs.Lists.{and_left, and_right, or-false-left, or-false-right, true-false}
+use Rattle.rules.specs.State.{State, epoch_of, free, fresh_in, objects}
+use Rattle.rules.specs.Step.{accepts, alone, effect, next, reply, size, verdict, with_places}
+use Rattle.rules.specs.Table.{Row, ◌if◌, first_of, row10, row11, row2, row3, row4, row9, rows, well_formed}
+use Rattle.rules.specs.Words.{active, currency_of, is_live, manifest_of, of_currency, read_by, stored}
+use Rattle.rules.proofs.Depot.{week_unmet}
+use Rattle.rules.proofs.Lists.{and_left, and_right, or_false-left, or_false_right, true-false}
 use Rattle.rules.proofs.Shape.{shape_of}
 use Rattle.rules.proofs.Soundness.{next-sound, sound-fresh}
 use Rattle.rules.proofs.Table.{cleared}
@@ -30,18 +30,18 @@ use Rattle.rules.proofs.Wider.{effect-wide, granted-same, objects-same, widen}
 -- The rows
 
 -- the verdict of some rows and one behind them
-abbrev endedBy : ℕ → List Row → Bool → ℕ
-endedBy n rs b = first_of (rs ++ ((n if b) ∷ []))
+abbrev ended_by : ℕ → List Row → Bool → ℕ
+ended_by n rs b = first_of (rs ++ ((n if b) ∷ []))
 
 -- where the last row is not the verdict, it may apply less
-last_row : (n : ℕ) (rs : List Row) (b c : Bool) → (b ≡ false → c ≡ false) → eqb (endedBy n rs b) n ≡ false → endedBy n rs c ≡ endedBy n rs b
+last_row_lem : (n : ℕ) (rs : List Row) (b c : Bool) → (b ≡ false → c ≡ false) → eqb (ended_by n rs b) n ≡ false → ended_by n rs c ≡ ended_by n rs b
 unfolding first_of
-last_row n [] true c f e = true-false (eqb n n) (eq-eqb n n refl) e
-last_row n [] false c f e = ap (λ (b : Bool). cond b n 0) (f refl)
-last_row n (r ∷ rs) b c f e = step r.applies e (last_row n rs b c f)
+last_row_lem n [] true c f e = true-false (eqb n n) (eq-eqb n n refl) e
+last_row_lem n [] false c f e = ap (λ (b : Bool). cond b n 0) (f refl)
+last_row_lem n (r ∷ rs) b c f e = step r.applies e (last_row_lem n rs b c f)
   where
-    step : (d : Bool) → eqb (cond d r.number (endedBy n rs b)) n ≡ false → (eqb (endedBy n rs b) n ≡ false → endedBy n rs c ≡ endedBy n rs b)
-        → cond d r.number (endedBy n rs c) ≡ cond d r.number (endedBy n rs b)
+    step : (d : Bool) → eqb (cond d r.number (ended_by n rs b)) n ≡ false → (eqb (ended_by n rs b) n ≡ false → ended_by n rs c ≡ ended_by n rs b)
+        → cond d r.number (ended_by n rs c) ≡ cond d r.number (ended_by n rs b)
     step true e g = refl
     step false e g = g e
 
@@ -62,11 +62,11 @@ module _ (L M : Limits) (raised : Raised L M) (k : ℕ) (s : State) (t : ℕ) (l
 
   -- no verdict of 11 and no list over the limit: the first row that applies is the same
   rows_same : (kind : Kind) → ltb L.names (length l) ≡ false → eqb (first_of (rows L s t kind l)) 11 ≡ false → first_of (rows M (widen k s) t kind l) ≡ first_of (rows L s t kind l)
-  unfolding rows wellFormed stored ofCurrency currencyOf read_by manifestOf isLive active
+  unfolding rows well_formed stored of_currency currency_of read_by manifest_of is_live active
   rows_same (FENCE r slot) short f = refl
   rows_same (PUT r e n c) short f =
-      let first = (2 if row2 L t (PUT r e n c) l) ∷ (3 if row3 s t) ∷ (4 if row4 (epochOf r s.current) e) ∷ (9 if row9 s n) ∷ (10 if row10 s n) ∷ [] in
-      rw (objects-same k s) (last_row 11 first (row11 L s) (row11 M s) room-stays f)
+      let first = (2 if row2 L t (PUT r e n c) l) ∷ (3 if row3 s t) ∷ (4 if row4 (epoch_of r s.current) e) ∷ (9 if row9 s n) ∷ (10 if row10 s n) ∷ [] in
+      rw (objects-same k s) (last_row_lem 11 first (row11 L s) (row11 M s) room-stays f)
   rows_same (COMMIT e slot) short f = rw (short-same short, objects-same k s)
   rows_same (COMPACT e slot n) short f = rw (objects-same k s)
   rows_same (HOLD x m e) short f = rw raised.holds
@@ -88,8 +88,8 @@ module _ (L M : Limits) (raised : Raised L M) (k : ℕ) (s : State) (both : Both
   unfolding verdict first_of
   verdict-same (Asked t kind l) e =
       ap₂ (λ (b : Bool) (n : ℕ). cond (not b) 1 n) (both.new ∙ sym both.old)
-      (rows_same L M raised k s t l kind (or-false-right (eqb (verdict L (sound L) s (Asked t kind l)) 11) _ e)
-      (ap (λ (b : Bool). eqb (cond (not b) 1 (first_of (rows L s t kind l))) 11) (sym both.old) ∙ or-false-left (eqb (verdict L (sound L) s (Asked t kind l)) 11) _ e))
+      (rows_same L M raised k s t l kind (or_false_right (eqb (verdict L (sound L) s (Asked t kind l)) 11) _ e)
+      (ap (λ (b : Bool). eqb (cond (not b) 1 (first_of (rows L s t kind l))) 11) (sym both.old) ∙ or_false-left (eqb (verdict L (sound L) s (Asked t kind l)) 11) _ e))
   verdict-same Unreadable e = ap (λ (b : Bool). cond (not b) 1 2) (both.new ∙ sym both.old)
 
   reply-same : (q : Request) → meets L s q ≡ false → reply M (sound M) (widen k s) q ≡ reply L (sound L) s q
@@ -116,56 +116,56 @@ module _ (L M : Limits) (raised : Raised L M) (k : ℕ) (s : State) (both : Both
 
 -- Every sequence
 
-module _ (L : Limits) (s : State) (a : Ask) (asks : List Ask) (e : neverMet L s (a ∷ asks) ≡ true) where
+module _ (L : Limits) (s : State) (a : Ask) (asks : List Ask) (e : never_met L s (a ∷ asks) ≡ true) where
   unmet : meets L s a.request ≡ false
-  unfolding neverMet
+  unfolding never_met
   unmet = not-true (meets L s a.request) (and_left (not (meets L s a.request)) _ e)
 
-  unmet-rest : neverMet L (next L (sound L) s a) asks ≡ true
-  unfolding neverMet
-  unmet-rest = and_right (not (meets L s a.request)) _ e
+  unmet_rest : never_met L (next L (sound L) s a) asks ≡ true
+  unfolding never_met
+  unmet_rest = and_right (not (meets L s a.request)) _ e
 
 module _ (L M : Limits) (raised : Raised L M) (k : ℕ) where
-  replies-same : (s : State) → Both L M k s → (asks : List Ask) → neverMet L s asks ≡ true → repliesFrom M (widen k s) asks ≡ repliesFrom L s asks
-  unfolding repliesFrom
+  replies-same : (s : State) → Both L M k s → (asks : List Ask) → never_met L s asks ≡ true → replies_from M (widen k s) asks ≡ replies_from L s asks
+  unfolding replies_from
   replies-same s both [] e = refl
   replies-same s both (a ∷ asks) e =
       let u = unmet L s a asks e in
       ap₂ ◌∷◌ (reply-same L M raised k s both a.request u)
-      (ap (λ (z : State). repliesFrom M z asks) (next-wide L M raised k s both a u) ∙ replies-same _ (next_both L M raised k s both a u) asks (unmet-rest L s a asks e))
+      (ap (λ (z : State). replies_from M z asks) (next-wide L M raised k s both a u) ∙ replies-same _ (next_both L M raised k s both a u) asks (unmet_rest L s a asks e))
 
-  events-same : (s : State) → Both L M k s → (asks : List Ask) → neverMet L s asks ≡ true → eventsFrom M (sound M) (widen k s) asks ≡ eventsFrom L (sound L) s asks
-  unfolding eventsFrom
+  events-same : (s : State) → Both L M k s → (asks : List Ask) → never_met L s asks ≡ true → events_from M (sound M) (widen k s) asks ≡ events_from L (sound L) s asks
+  unfolding events_from
   events-same s both [] e = refl
   events-same s both (a ∷ asks) e =
       let u = unmet L s a asks e in
       ap₂ ◌∷◌ (ap (λ (b : Bool). record { request = a.request; accepted = b }) (accepts-same L M raised k s both a u))
-      (ap (λ (z : State). eventsFrom M (sound M) z asks) (next-wide L M raised k s both a u) ∙ events-same _ (next_both L M raised k s both a u) asks (unmet-rest L s a asks e))
+      (ap (λ (z : State). events_from M (sound M) z asks) (next-wide L M raised k s both a u) ∙ events-same _ (next_both L M raised k s both a u) asks (unmet_rest L s a asks e))
 
 module _ (L M : Limits) (raised : Raised L M) where
   -- the places that are added
   more : ℕ
   more = M.places - L.places
 
-  fresh-wide : widen more (freshIn L) ≡ freshIn M
+  fresh-wide : widen more (fresh_in L) ≡ fresh_in M
   unfolding more
-  fresh-wide = ap (withPlaces (freshIn L)) (replicate-append-replicate L.places more free ∙ ap (λ (n : ℕ). replicate n free) sum)
+  fresh-wide = ap (with_places (fresh_in L)) (replicate-append-replicate L.places more free ∙ ap (λ (n : ℕ). replicate n free) sum)
     where
       sum : L.places + more ≡ M.places
       sum = let h = raised.places in omega arith
 
-  fresh-both : Both L M more (freshIn L)
-  fresh-both = record { old = sound-fresh L; new = subst (λ (z : State). sound M z ≡ true) (sym fresh-wide) (sound-fresh M) }
+  fresh_both : Both L M more (fresh_in L)
+  fresh_both = record { old = sound-fresh L; new = subst (λ (z : State). sound M z ≡ true) (sym fresh-wide) (sound-fresh M) }
 
   kept-verdicts : KeepsVerdicts L M
   kept-verdicts = record {
-    replies = λ asks e. ap (λ (z : State). repliesFrom M z asks) (sym fresh-wide) ∙ replies-same L M raised more (freshIn L) fresh-both asks e;
-    events = λ asks e. ap (λ (z : State). eventsFrom M (sound M) z asks) (sym fresh-wide) ∙ events-same L M raised more (freshIn L) fresh-both asks e;
+    replies = λ asks e. ap (λ (z : State). replies_from M z asks) (sym fresh-wide) ∙ replies-same L M raised more (fresh_in L) fresh_both asks e;
+    events = λ asks e. ap (λ (z : State). events_from M (sound M) z asks) (sym fresh-wide) ∙ events-same L M raised more (fresh_in L) fresh_both asks e;
   }
 
-pub old-verdicts-kept : OldVerdictsKept
-old-verdicts-kept = record {
+pub old_verdicts-kept : OldVerdictsKept
+old_verdicts-kept = record {
   always = kept-verdicts;
-  here = kept-verdicts firstLimits limits (record { places = omega arith; names = omega arith; holds = refl });
-  week = week-unmet;
+  here = kept-verdicts first_limits limits (record { places = omega arith; names = omega arith; holds = refl });
+  week = week_unmet;
 }

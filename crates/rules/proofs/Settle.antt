@@ -10,14 +10,14 @@ use lib.Dec.{eqb}
 use borrow.Author.Tests.{eq-eqb}
 use Rattle.rules.specs.declared.Hold.{Hold}
 use Rattle.rules.specs.Agreement.{Agrees}
-use Rattle.rules.specs.History.{History, atTime, listAt, listed_at, lists, liveAt, stored_at}
+use Rattle.rules.specs.History.{History, at_time, list_at, listed_at, lists, live_at, stored_at}
 use Rattle.rules.specs.Limits.{Limits}
 use Rattle.rules.specs.Lists.{◌∈◌, any, has, keep}
 use Rattle.rules.specs.State.{Manifest, State, kept}
-use Rattle.rules.specs.Step.{heldBy, settle, tidy}
+use Rattle.rules.specs.Step.{held_by, settle, tidy}
 use Rattle.rules.specs.Words.{live}
 use Rattle.rules.proofs.Agreement.{live-before}
-use Rattle.rules.proofs.Lists.{any-in, in-any, in-keep, keep-in, or_cases, or_left, or_right}
+use Rattle.rules.proofs.Lists.{any_in, in_any, in_keep, keep_in, or_cases, or_left, or_right}
 
 -- what is listed at a time was listed before
 pub listed-before : (c t : ℕ) (h : History) (n : ℕ) → c ≤ t → listed_at t h n ≡ true → listed_at c h n ≡ true
@@ -25,16 +25,16 @@ unfolding listed_at live
 listed-before c t h n le e = step (or_cases (has n h.current) _ e)
   where
     by : Hold → Bool
-    by x = has n (listAt x.manifest (lists h))
+    by x = has n (list_at x.manifest (lists h))
 
-    step : (has n h.current ≡ true) ⊎ (any by (keep (liveAt t) h.holds) ≡ true) → (has n h.current || any by (keep (liveAt c) h.holds)) ≡ true
+    step : (has n h.current ≡ true) ⊎ (any by (keep (live_at t) h.holds) ≡ true) → (has n h.current || any by (keep (live_at c) h.holds)) ≡ true
     step (inl p) = or_left (has n h.current) _ p
     step (inr p) =
-        let k = any-in by (keep (liveAt t) h.holds) p in
-        let i = keep-in (liveAt t) h.holds k.1 in
-        or_right (has n h.current) _ (in-any by (in-keep (live c) i.0 (live-before c t k.0 le i.1)) k.2)
+        let k = any_in by (keep (live_at t) h.holds) p in
+        let i = keep_in (live_at t) h.holds k.1 in
+        or_right (has n h.current) _ (in_any by (in_keep (live c) i.0 (live-before c t k.0 le i.1)) k.2)
 
-pub settle-keeps : {L : Limits} (t : ℕ) (s : State) (h : History) → s.clock ≤ t → Agrees L s h → Agrees L (settle t s) (atTime t h)
+pub settle-keeps : {L : Limits} (t : ℕ) (s : State) (h : History) → s.clock ≤ t → Agrees L s h → Agrees L (settle t s) (at_time t h)
 unfolding listed_at stored_at
 settle-keeps t s h le r = record {
   clock = refl;
@@ -44,32 +44,32 @@ settle-keeps t s h le r = record {
   compactor = r.compactor;
   things = r.things;
   holding = record {
-    alive = λ x i. (keep-in (live t) s.holds i).1;
-    noted = λ x i. r.holding.noted x (keep-in (live t) s.holds i).0;
-    found = λ y i e. in-keep (live t) (r.holding.found y i (live-before s.clock t y le e)) e;
+    alive = λ x i. (keep_in (live t) s.holds i).1;
+    noted = λ x i. r.holding.noted x (keep_in (live t) s.holds i).0;
+    found = λ y i e. in_keep (live t) (r.holding.found y i (live-before s.clock t y le e)) e;
     unique = r.holding.unique;
   };
   manifests = record {
     noted = r.manifests.noted;
     past = r.manifests.past;
-    held = λ x i. r.manifests.held x (keep-in (live t) s.holds i).0;
+    held = λ x i. r.manifests.held x (keep_in (live t) s.holds i).0;
   };
   safe = λ n e. r.safe n (listed-before h.time t h n (subst (λ k. k ≤ t) r.clock le) e);
 }
 
 pub tidy-back : (s : State) (m : Manifest) → m ∈ kept (tidy s) → m ∈ kept s
-tidy-back s m i = step (Memᴰ.append_cases (keep (heldBy s.holds) s.older) i)
+tidy-back s m i = step (Memᴰ.append_cases (keep (held_by s.holds) s.older) i)
   where
-    step : (m ∈ keep (heldBy s.holds) s.older) ⊎ (m ∈ (s.current ∷ [])) → m ∈ kept s
-    step (inl j) = Memᴰ.append_left (s.current ∷ []) (keep-in (heldBy s.holds) s.older j).0
+    step : (m ∈ keep (held_by s.holds) s.older) ⊎ (m ∈ (s.current ∷ [])) → m ∈ kept s
+    step (inl j) = Memᴰ.append_left (s.current ∷ []) (keep_in (held_by s.holds) s.older j).0
     step (inr j) = Memᴰ.append_right s.older j
 
 pub tidy-stays : (s : State) (x : Hold) → x ∈ s.holds → (m : Manifest) → m ∈ kept s → m.number ≡ x.manifest → m ∈ kept (tidy s)
 tidy-stays s x i m j e = step (Memᴰ.append_cases s.older j)
   where
     step : (m ∈ s.older) ⊎ (m ∈ (s.current ∷ [])) → m ∈ kept (tidy s)
-    step (inl k) = Memᴰ.append_left (s.current ∷ []) (in-keep (heldBy s.holds) k (in-any (λ (x : Hold). eqb m.number x.manifest) i (eq-eqb _ _ e)))
-    step (inr k) = Memᴰ.append_right (keep (heldBy s.holds) s.older) k
+    step (inl k) = Memᴰ.append_left (s.current ∷ []) (in_keep (held_by s.holds) k (in_any (λ (x : Hold). eqb m.number x.manifest) i (eq-eqb _ _ e)))
+    step (inr k) = Memᴰ.append_right (keep (held_by s.holds) s.older) k
 
 pub tidy-keeps : {L : Limits} (s : State) (h : History) → Agrees L s h → Agrees L (tidy s) h
 tidy-keeps s h r = record {

@@ -11,12 +11,12 @@ use Rattle.rules.specs.declared.Object.{Object}
 use Rattle.rules.specs.Limits.{Limits}
 use Rattle.rules.specs.Lists.{◌∈◌, distinct, has, keep}
 use Rattle.rules.specs.Sound.{ordered}
-use Rattle.rules.specs.State.{Manifest, State, firstManifest, free, kept, objects, occupied}
+use Rattle.rules.specs.State.{Manifest, State, first_manifest, free, kept, objects, occupied}
 use Rattle.rules.specs.Step.{clear, collect}
-use Rattle.rules.specs.Words.{dead, listed, live, manifestOf, pending, stored}
+use Rattle.rules.specs.Words.{dead, listed, live, manifest_of, pending, stored}
 use Rattle.rules.proofs.Collect.{clear-from, clear-to}
-use Rattle.rules.proofs.Lists.{in-any, in-keep, lookup-in, or_left, or_right}
-use Rattle.rules.proofs.Numbers.{distinct-keep, in-has}
+use Rattle.rules.proofs.Lists.{in_any, in_keep, lookup_in, or_left, or_right}
+use Rattle.rules.proofs.Numbers.{distinct-keep, in_has}
 use Rattle.rules.proofs.Ordered.{ordered-unique}
 use Rattle.rules.proofs.Shape.{Named, Shape, numbers}
 
@@ -52,18 +52,18 @@ module _ {L : Limits} (s : State) (r : Shape L s) where
 
   current-listed : (n : ℕ) → n ∈ s.current.names → listed s.clock s n ≡ true
   unfolding listed
-  current-listed n i = or_left (has n s.current.names) _ (in-has i)
+  current-listed n i = or_left (has n s.current.names) _ (in_has i)
 
   held-listed : (x : Hold) → x ∈ s.holds → (m : Manifest) → m ∈ kept s → m.number ≡ x.manifest → (n : ℕ) → n ∈ m.names → listed s.clock s n ≡ true
-  unfolding listed manifestOf
+  unfolding listed manifest_of
   held-listed x i m j q n k =
-      let f = lookup-in (λ (m : Manifest). m.number) (λ m. m) firstManifest x.manifest (kept s) j q in
+      let f = lookup_in (λ (m : Manifest). m.number) (λ m. m) first_manifest x.manifest (kept s) j q in
       let e = f.3 ∙ ordered-unique 0 0 0 (kept s) f.0 m r.ordered f.1 j (f.2 ∙ sym q) in
-      or_right (has n s.current.names) _ (in-any (λ (x : Hold). has n (manifestOf s x.manifest).names) (in-keep (live s.clock) i (r.alive x i))
-      (ap (λ (m : Manifest). has n m.names) e ∙ in-has k))
+      or_right (has n s.current.names) _ (in_any (λ (x : Hold). has n (manifest_of s x.manifest).names) (in_keep (live s.clock) i (r.alive x i))
+      (ap (λ (m : Manifest). has n m.names) e ∙ in_has k))
 
-  pub collect-shape : Shape L (collect s)
-  collect-shape = record {
+  pub collect_shape : Shape L (collect s)
+  collect_shape = record {
     size = length-map s.places (clear s.clock s) ∙ r.size;
     unused = λ o i z. let m = Memᴰ.of_map (clear s.clock s) s.places i in empty o z m.0 m.1 (dead s.clock s m.0) m.2;
     stored = λ o i. r.stored o (clear-from s.clock s o i).0;
@@ -73,7 +73,7 @@ module _ {L : Limits} (s : State) (r : Shape L s) where
     short = r.short;
     current = left-named s.current.names current-listed r.current;
     held = λ x i m j q. left-named m.names (held-listed x i m j q) (r.held x i m j q);
-    holdsRising = r.holdsRising;
+    holds_rising = r.holds_rising;
     few = r.few;
     holds = r.holds;
     alive = r.alive;

@@ -14,7 +14,7 @@ use Rattle.rules.specs.Sound.{ordered}
 use Rattle.rules.specs.State.{Manifest, State, kept}
 use Rattle.rules.specs.Step.{settle, tidy}
 use Rattle.rules.specs.Words.{live, stored}
-use Rattle.rules.proofs.Lists.{any-in, keep-in}
+use Rattle.rules.proofs.Lists.{any_in, keep_in}
 use Rattle.rules.proofs.Numbers.{keep-length, rising-keep}
 use Rattle.rules.proofs.Ordered.{ordered-keep}
 use Rattle.rules.proofs.Settle.{tidy-back, tidy-stays}
@@ -23,8 +23,8 @@ use Rattle.rules.proofs.Shape.{Held, Shape}
 pub current-kept : (s : State) → s.current ∈ kept s
 current-kept s = Memᴰ.append_right s.older (Memᴰ.head refl)
 
-pub settle-shape : {L : Limits} (t : ℕ) (s : State) → Shape L s → Shape L (settle t s)
-settle-shape t s r = record {
+pub settle_shape : {L : Limits} (t : ℕ) (s : State) → Shape L s → Shape L (settle t s)
+settle_shape t s r = record {
   size = r.size;
   unused = r.unused;
   stored = r.stored;
@@ -33,15 +33,15 @@ settle-shape t s r = record {
   rising = r.rising;
   short = r.short;
   current = r.current;
-  held = λ x i. r.held x (keep-in (live t) s.holds i).0;
-  holdsRising = rising-keep (λ (x : Hold). x.number) (live t) 0 s.holds r.holdsRising;
+  held = λ x i. r.held x (keep_in (live t) s.holds i).0;
+  holds_rising = rising-keep (λ (x : Hold). x.number) (live t) 0 s.holds r.holds_rising;
   few = let a = keep-length (live t) s.holds in let b = r.few in omega arith;
-  holds = λ x i. r.holds x (keep-in (live t) s.holds i).0;
-  alive = λ x i. (keep-in (live t) s.holds i).1;
+  holds = λ x i. r.holds x (keep_in (live t) s.holds i).0;
+  alive = λ x i. (keep_in (live t) s.holds i).1;
 }
 
-pub tidy-shape : {L : Limits} (s : State) → Shape L s → Shape L (tidy s)
-tidy-shape s r = record {
+pub tidy_shape : {L : Limits} (s : State) → Shape L s → Shape L (tidy s)
+tidy_shape s r = record {
   size = r.size;
   unused = r.unused;
   stored = r.stored;
@@ -51,7 +51,7 @@ tidy-shape s r = record {
   short = λ m i. r.short m (tidy-back s m i);
   current = r.current;
   held = λ x i m j. r.held x i m (tidy-back s m j);
-  holdsRising = r.holdsRising;
+  holds_rising = r.holds_rising;
   few = r.few;
   holds = λ x i. let f = r.holds x i in (f.0, tidy-stays s x i f.0 f.1 f.2, f.2);
   alive = r.alive;
@@ -59,5 +59,5 @@ tidy-shape s r = record {
 
 pub tidy-held : (s : State) → Held (tidy s)
 tidy-held s m i =
-    let k = any-in (λ (x : Hold). eqb m.number x.manifest) s.holds (keep-in (λ (m : Manifest). any (λ (x : Hold). eqb m.number x.manifest) s.holds) s.older i).1 in
+    let k = any_in (λ (x : Hold). eqb m.number x.manifest) s.holds (keep_in (λ (m : Manifest). any (λ (x : Hold). eqb m.number x.manifest) s.holds) s.older i).1 in
     (k.0, k.1, eqb-true m.number k.0.manifest k.2)

@@ -6,32 +6,32 @@ use mathlib.Core.List.{List, [], ◌∷◌}
 use Prim.Native.Nat.{suc}
 use lib.ListN.{length}
 use borrow.Author.Tests.{not-true}
-use Rattle.rules.specs.Demand3.{eventsFrom, ledgerFrom}
+use Rattle.rules.specs.Demand3.{events_from, ledger_from}
 use Rattle.rules.specs.History.{Event}
 use Rattle.rules.specs.Limits.{Limits}
 use Rattle.rules.specs.Lists.{all}
-use Rattle.rules.specs.Raised.{repliesFrom}
+use Rattle.rules.specs.Raised.{replies_from}
 use Rattle.rules.specs.Request.{Ask}
 use Rattle.rules.specs.Sound.{sound}
 use Rattle.rules.specs.State.{State}
 use Rattle.rules.specs.Step.{Reply, accepts, next, reply}
-use Rattle.rules.specs.Struck.{Strikable, Strikes, each, notAccepted, others, refusals, within}
+use Rattle.rules.specs.Struck.{Strikable, Strikes, each, not_accepted, others, refusals, within}
 use Rattle.rules.proofs.Lists.{and_left, and_right}
-use Rattle.rules.proofs.Table.{refusal-keeps}
+use Rattle.rules.proofs.Table.{refusal_keeps}
 
 -- ---- marks
 
-within-itself : (bs : List Bool) → within bs bs ≡ true
+within_itself : (bs : List Bool) → within bs bs ≡ true
 unfolding within
-within-itself [] = refl
-within-itself (true ∷ bs) = within-itself bs
-within-itself (false ∷ bs) = within-itself bs
+within_itself [] = refl
+within_itself (true ∷ bs) = within_itself bs
+within_itself (false ∷ bs) = within_itself bs
 
-none_left : (bs : List Bool) → all not (others bs bs) ≡ true
+none_left_lem : (bs : List Bool) → all not (others bs bs) ≡ true
 unfolding all others
-none_left [] = refl
-none_left (true ∷ bs) = none_left bs
-none_left (false ∷ bs) = none_left bs
+none_left_lem [] = refl
+none_left_lem (true ∷ bs) = none_left_lem bs
+none_left_lem (false ∷ bs) = none_left_lem bs
 
 -- a mark that may stand where there is no refusal strikes nothing
 unmarked : (b r : Bool) → not r ≡ true → (not b || r) ≡ true → b ≡ false
@@ -86,38 +86,38 @@ module _ {S A : Type 0} (next : S → A → S) where
       pub strikable : (s : S) (xs : List A) → Strikable next refuses s xs
       strikable s xs =
           let rs = refusals next refuses s xs in
-          record { nothing = nothing s xs; every = within-itself rs; noneLeft = ap (all not) (each-others refuses s rs xs (within-itself rs)) ∙ none_left rs }
+          record { nothing = nothing s xs; every = within_itself rs; none_left = ap (all not) (each-others refuses s rs xs (within_itself rs)) ∙ none_left_lem rs }
 
 -- ---- asks
 
 module _ (L : Limits) where
-  stays : (s : State) (a : Ask) → notAccepted L s a ≡ true → next L (sound L) s a ≡ s
-  stays s a e = refusal-keeps L (sound L) s a (not-true _ e)
+  stays : (s : State) (a : Ask) → not_accepted L s a ≡ true → next L (sound L) s a ≡ s
+  stays s a e = refusal_keeps L (sound L) s a (not-true _ e)
 
-  ledger-after : (s : State) (asks : List Ask) → ledgerFrom L (sound L) s asks ≡ after (next L (sound L)) s asks
-  unfolding ledgerFrom after
-  ledger-after s [] = refl
-  ledger-after s (a ∷ asks) = ledger-after _ asks
+  ledger_after_lem : (s : State) (asks : List Ask) → ledger_from L (sound L) s asks ≡ after (next L (sound L)) s asks
+  unfolding ledger_from after
+  ledger_after_lem s [] = refl
+  ledger_after_lem s (a ∷ asks) = ledger_after_lem _ asks
 
-  replies-each : (s : State) (asks : List Ask) → repliesFrom L s asks ≡ each (next L (sound L)) (λ q a. reply L (sound L) q a.request) s asks
-  unfolding repliesFrom each
+  replies-each : (s : State) (asks : List Ask) → replies_from L s asks ≡ each (next L (sound L)) (λ q a. reply L (sound L) q a.request) s asks
+  unfolding replies_from each
   replies-each s [] = refl
   replies-each s (a ∷ asks) = ap (λ (l : List Reply). reply L (sound L) s a.request ∷ l) (replies-each _ asks)
 
-  abbrev eventOf : State → Ask → Event
-  eventOf s a = record { request = a.request; accepted = accepts L (sound L) s a }
+  abbrev event_of : State → Ask → Event
+  event_of s a = record { request = a.request; accepted = accepts L (sound L) s a }
 
-  events-each : (s : State) (asks : List Ask) → eventsFrom L (sound L) s asks ≡ each (next L (sound L)) eventOf s asks
-  unfolding eventsFrom each
+  events-each : (s : State) (asks : List Ask) → events_from L (sound L) s asks ≡ each (next L (sound L)) event_of s asks
+  unfolding events_from each
   events-each s [] = refl
-  events-each s (a ∷ asks) = ap (λ (l : List Event). eventOf s a ∷ l) (events-each _ asks)
+  events-each s (a ∷ asks) = ap (λ (l : List Event). event_of s a ∷ l) (events-each _ asks)
 
   pub strikes : Strikes L
   strikes = record {
     unchanged = λ s marks asks w. record {
-      replies = replies-each s (others marks asks) ∙ each-others (next L (sound L)) (notAccepted L) stays _ s marks asks w ∙ ap (others marks) (sym (replies-each s asks));
-      events = events-each s (others marks asks) ∙ each-others (next L (sound L)) (notAccepted L) stays eventOf s marks asks w ∙ ap (others marks) (sym (events-each s asks));
-      ledger = ledger-after s (others marks asks) ∙ after-others (next L (sound L)) (notAccepted L) stays s marks asks w ∙ sym (ledger-after s asks);
+      replies = replies-each s (others marks asks) ∙ each-others (next L (sound L)) (not_accepted L) stays _ s marks asks w ∙ ap (others marks) (sym (replies-each s asks));
+      events = events-each s (others marks asks) ∙ each-others (next L (sound L)) (not_accepted L) stays event_of s marks asks w ∙ ap (others marks) (sym (events-each s asks));
+      ledger = ledger_after_lem s (others marks asks) ∙ after-others (next L (sound L)) (not_accepted L) stays s marks asks w ∙ sym (ledger_after_lem s asks);
     };
-    strikable = strikable (next L (sound L)) (notAccepted L) stays;
+    strikable = strikable (next L (sound L)) (not_accepted L) stays;
   }

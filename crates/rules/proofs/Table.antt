@@ -13,37 +13,37 @@ use Rattle.rules.specs.declared.Answer.TheVariants.{Refused}
 use Rattle.rules.specs.declared.Kind.{Kind}
 use Rattle.rules.specs.declared.Kind.TheVariants.{Collect as COLLECT, Commit as COMMIT, Compact as COMPACT, Fence as FENCE, Hold as HOLD, List as LIST, Look as LOOK, Put as PUT, Release as RELEASE, Renew as RENEW}
 use Rattle.rules.specs.Limits.{Limits}
-use Rattle.rules.specs.Lists.{◌∈◌, none, risingAbove}
+use Rattle.rules.specs.Lists.{◌∈◌, none, rising_above}
 use Rattle.rules.specs.Request.{Ask, Asked, Request, Unreadable}
 use Rattle.rules.specs.State.{State}
 use Rattle.rules.specs.Step.{accepts, alone, answers, code, granted, next, reply, rows_of, settle, verdict}
 use Rattle.rules.specs.Table.{Row, first_of, rows}
 use Rattle.rules.specs.Verdict.{RefusalKeeps, Smallest, VerdictSmallest}
 use Rattle.rules.proofs.Lists.{and_left, and_right, true-false}
-use Rattle.rules.proofs.Numbers.{rising-above}
+use Rattle.rules.proofs.Numbers.{rising_above_lem}
 
-abbrev pub rowNumbers : List Row → List ℕ
-rowNumbers rs = map (λ (r : Row). r.number) rs
+abbrev pub row_numbers : List Row → List ℕ
+row_numbers rs = map (λ (r : Row). r.number) rs
 
 -- no row of the list applies
 abbrev pub Clear : List Row → Type 0
 Clear [] = Unit {0}
 Clear (r ∷ rs) = (r.applies ≡ false) × Clear rs
 
-module _ (floor : ℕ) (r : Row) (rs : List Row) (e : risingAbove floor (rowNumbers (r ∷ rs)) ≡ true) where
+module _ (floor : ℕ) (r : Row) (rs : List Row) (e : rising_above floor (row_numbers (r ∷ rs)) ≡ true) where
   rising-first : floor < r.number
-  unfolding risingAbove
+  unfolding rising_above
   rising-first = ltb-true floor r.number (and_left (ltb floor r.number) _ e)
 
-  rising-rest : risingAbove r.number (rowNumbers rs) ≡ true
-  unfolding risingAbove
+  rising-rest : rising_above r.number (row_numbers rs) ≡ true
+  unfolding rising_above
   rising-rest = and_right (ltb floor r.number) _ e
 
   rising-later : (q : Row) → q ∈ rs → r.number < q.number
-  rising-later q i = rising-above r.number q.number (rowNumbers rs) rising-rest (Memᴰ.map (λ (r : Row). r.number) i)
+  rising-later q i = rising_above_lem r.number q.number (row_numbers rs) rising-rest (Memᴰ.map (λ (r : Row). r.number) i)
 
 -- 0, or above the floor
-first_above : (floor : ℕ) (rs : List Row) → risingAbove floor (rowNumbers rs) ≡ true → (first_of rs ≡ 0) ⊎ (floor < first_of rs)
+first_above : (floor : ℕ) (rs : List Row) → rising_above floor (row_numbers rs) ≡ true → (first_of rs ≡ 0) ⊎ (floor < first_of rs)
 unfolding first_of
 first_above floor [] e = inl refl
 first_above floor (r ∷ rs) e = step r.applies (first_above r.number rs (rising-rest floor r rs e))
@@ -53,7 +53,7 @@ first_above floor (r ∷ rs) e = step r.applies (first_above r.number rs (rising
     step false (inl z) = inl z
     step false (inr h) = let f = rising-first floor r rs e in inr (omega arith)
 
-pub clear_of : (floor : ℕ) (rs : List Row) → risingAbove floor (rowNumbers rs) ≡ true → first_of rs ≡ 0 → Clear rs
+pub clear_of : (floor : ℕ) (rs : List Row) → rising_above floor (row_numbers rs) ≡ true → first_of rs ≡ 0 → Clear rs
 unfolding first_of
 clear_of floor [] e z = tt
 clear_of floor (r ∷ rs) e z = step r.applies refl z (clear_of r.number rs (rising-rest floor r rs e))
@@ -62,10 +62,10 @@ clear_of floor (r ∷ rs) e z = step r.applies refl z (clear_of r.number rs (ris
     step true q z f = let h = rising-first floor r rs e in absurd (omega arith)
     step false q z f = (q, f z)
 
-pub of-clear : (rs : List Row) → Clear rs → first_of rs ≡ 0
+pub of_clear : (rs : List Row) → Clear rs → first_of rs ≡ 0
 unfolding first_of
-of-clear [] f = refl
-of-clear (r ∷ rs) f = ap (λ b. cond b r.number (first_of rs)) f.0 ∙ of-clear rs f.1
+of_clear [] f = refl
+of_clear (r ∷ rs) f = ap (λ b. cond b r.number (first_of rs)) f.0 ∙ of_clear rs f.1
 
 clear_in : (rs : List Row) → Clear rs → (r : Row) → r ∈ rs → r.applies ≡ false
 clear_in [] f r i = absurd (Memᴰ.not-nil i)
@@ -75,16 +75,16 @@ clear_in (q ∷ qs) f r i = step (Memᴰ.cases_cons i) (clear_in qs f.1 r)
     step (inl e) g = ap (λ (r : Row). r.applies) e ∙ f.0
     step (inr j) g = g j
 
-in-clear : (rs : List Row) → ((r : Row) → r ∈ rs → r.applies ≡ false) → Clear rs
-in-clear [] f = tt
-in-clear (r ∷ rs) f = (f r (Memᴰ.head refl), in-clear rs (λ q i. f q (Memᴰ.tail i)))
+in_clear : (rs : List Row) → ((r : Row) → r ∈ rs → r.applies ≡ false) → Clear rs
+in_clear [] f = tt
+in_clear (r ∷ rs) f = (f r (Memᴰ.head refl), in_clear rs (λ q i. f q (Memᴰ.tail i)))
 
 -- no row below r's applies
 abbrev Below : List Row → Row → Type 0
 Below rs r = (q : Row) → q ∈ rs → q.number < r.number → q.applies ≡ false
 
 -- the number that is given is that of a row that applies, where no smaller one does
-given : (floor : ℕ) (rs : List Row) → risingAbove floor (rowNumbers rs) ≡ true → (r : Row) → r ∈ rs → first_of rs ≡ r.number → (r.applies ≡ true) × Below rs r
+given : (floor : ℕ) (rs : List Row) → rising_above floor (row_numbers rs) ≡ true → (r : Row) → r ∈ rs → first_of rs ≡ r.number → (r.applies ≡ true) × Below rs r
 unfolding first_of
 given floor [] e r i z = absurd (Memᴰ.not-nil i)
 given floor (q ∷ qs) e r i z = step q.applies refl (Memᴰ.cases_cons i) z (given q.number qs (rising-rest floor q qs e) r)
@@ -120,7 +120,7 @@ given floor (q ∷ qs) e r i z = step q.applies refl (Memᴰ.cases_cons i) z (gi
         none (inr y) = let a = ap (λ (r : Row). r.number) w in omega arith
     step false p (inr k) z f = let g = f k z in (g.0, below p g.1)
 
-gives : (floor : ℕ) (rs : List Row) → risingAbove floor (rowNumbers rs) ≡ true → (r : Row) → r ∈ rs → r.applies ≡ true → Below rs r → first_of rs ≡ r.number
+gives : (floor : ℕ) (rs : List Row) → rising_above floor (row_numbers rs) ≡ true → (r : Row) → r ∈ rs → r.applies ≡ true → Below rs r → first_of rs ≡ r.number
 unfolding first_of
 gives floor [] e r i a f = absurd (Memᴰ.not-nil i)
 gives floor (q ∷ qs) e r i a f = step q.applies refl (Memᴰ.cases_cons i) (λ k. gives q.number qs (rising-rest floor q qs e) r k a (λ x j. f x (Memᴰ.tail j)))
@@ -131,14 +131,14 @@ gives floor (q ∷ qs) e r i a f = step q.applies refl (Memᴰ.cases_cons i) (λ
     step false p (inl w) g = true-false q.applies (sym (ap (λ (r : Row). r.applies) w) ∙ a) p
     step false p (inr k) g = g k
 
-pub smallest : (rs : List Row) → risingAbove 0 (rowNumbers rs) ≡ true → Smallest rs (first_of rs)
+pub smallest : (rs : List Row) → rising_above 0 (row_numbers rs) ≡ true → Smallest rs (first_of rs)
 smallest rs e = record {
-  accepted = (λ z. clear_in rs (clear_of 0 rs e z), λ f. of-clear rs (in-clear rs f));
+  accepted = (λ z. clear_in rs (clear_of 0 rs e z), λ f. of_clear rs (in_clear rs f));
   refused = λ r i. (given 0 rs e r i, λ w. gives 0 rs e r i w.0 w.1);
 }
 
 -- where a row applies the number is not above that row's, and not 0
-pub at_most : (floor : ℕ) (rs : List Row) → risingAbove floor (rowNumbers rs) ≡ true → (r : Row) → r ∈ rs → r.applies ≡ true → (0 < first_of rs) × (first_of rs ≤ r.number)
+pub at_most : (floor : ℕ) (rs : List Row) → rising_above floor (row_numbers rs) ≡ true → (r : Row) → r ∈ rs → r.applies ≡ true → (0 < first_of rs) × (first_of rs ≤ r.number)
 unfolding first_of
 at_most floor [] e r i a = absurd (Memᴰ.not-nil i)
 at_most floor (q ∷ qs) e r i a = step q.applies refl (Memᴰ.cases_cons i) (λ k. at_most q.number qs (rising-rest floor q qs e) r k a)
@@ -150,8 +150,8 @@ at_most floor (q ∷ qs) e r i a = step q.applies refl (Memᴰ.cases_cons i) (λ
     step false p (inr k) f = f k
 
 -- each kind's rows are in rising order
-pub rows-rising : (L : Limits) (s : State) (t : ℕ) (k : Kind) (l : List ℕ) → risingAbove 1 (rowNumbers (rows L s t k l)) ≡ true
-unfolding rows risingAbove
+pub rows-rising : (L : Limits) (s : State) (t : ℕ) (k : Kind) (l : List ℕ) → rising_above 1 (row_numbers (rows L s t k l)) ≡ true
+unfolding rows rising_above
 rows-rising L s t (FENCE r slot) l = refl
 rows-rising L s t (PUT r e n c) l = refl
 rows-rising L s t (COMMIT e slot) l = refl
@@ -164,8 +164,8 @@ rows-rising L s t (LOOK c x) l = refl
 rows-rising L s t COLLECT l = refl
 
 module _ (L : Limits) (test : State → Bool) where
-  rising : (s : State) (q : Request) → risingAbove 0 (rowNumbers (rows_of L test s q)) ≡ true
-  unfolding risingAbove
+  rising : (s : State) (q : Request) → rising_above 0 (row_numbers (rows_of L test s q)) ≡ true
+  unfolding rising_above
   rising s (Asked t k l) = rows-rising L s t k l
   rising s Unreadable = refl
 
@@ -189,9 +189,9 @@ module _ (L : Limits) (test : State → Bool) where
   cleared s a e = clear_of 0 (rows_of L test s a.request) (rising s a.request) (verdict-zero s a e)
 
   -- a refusal changes nothing, and neither does a verdict that does not fit
-  pub refusal-keeps : RefusalKeeps L test
+  pub refusal_keeps : RefusalKeeps L test
   unfolding next
-  refusal-keeps s a e = rw e
+  refusal_keeps s a e = rw e
 
   -- an accepted step's reply
   pub granted-reply : (s : State) (a : Ask) → accepts L test s a ≡ true → reply L test s a.request ≡ granted a.request s

@@ -14,16 +14,16 @@ use Rattle.rules.specs.declared.Object.{Object}
 use Rattle.rules.specs.declared.Role.{Role}
 use Rattle.rules.specs.declared.Role.TheVariants.{Compactor, Writer}
 use Rattle.rules.specs.Limits.{Limits}
-use Rattle.rules.specs.Lists.{has, keep, maximum, risingAbove}
+use Rattle.rules.specs.Lists.{has, keep, maximum, rising_above}
 use Rattle.rules.specs.Request.{Asked, Request, Unreadable}
 use Rattle.rules.specs.State.{State, free, objects, occupied}
-use Rattle.rules.specs.Step.{act, answers, clear, collect, collected, commit, effect, fence, granted, mark, place, publish, rows_of, settle, tidy, withPlaces}
-use Rattle.rules.specs.Table.{rows, wellFormed}
-use Rattle.rules.specs.Words.{compacted, currencyOf, dead, listed, manifestOf, ofCurrency, pending, read_by}
+use Rattle.rules.specs.Step.{act, answers, clear, collect, collected, commit, effect, fence, granted, mark, place, publish, rows_of, settle, tidy, with_places}
+use Rattle.rules.specs.Table.{rows, well_formed}
+use Rattle.rules.specs.Words.{compacted, currency_of, dead, listed, manifest_of, of_currency, pending, read_by}
 use Rattle.rules.proofs.Accepted.{passed, positive}
 use Rattle.rules.proofs.Demand3.{none-stored}
 use Rattle.rules.proofs.Lists.{conj-true, decide}
-use Rattle.rules.proofs.Numbers.{has_in, rising-above}
+use Rattle.rules.proofs.Numbers.{has_in, rising_above_lem}
 use Rattle.rules.proofs.Shape.{Shape}
 use Rattle.rules.proofs.SoundEnds.{current-kept}
 use Rattle.rules.proofs.Soundness.{compacted-rising}
@@ -35,7 +35,7 @@ abbrev spare : ℕ → List Object → List Object
 spare k ps = ps ++ replicate k free
 
 abbrev pub widen : ℕ → State → State
-widen k s = withPlaces s (spare k s.places)
+widen k s = with_places s (spare k s.places)
 
 spare-objects : (k : ℕ) (ps : List Object) → keep occupied (spare k ps) ≡ keep occupied ps
 unfolding keep
@@ -60,14 +60,14 @@ spare-place o k (x ∷ xs) h = step (occupied x) h (spare-place o k xs)
     step false h f = refl
 
 -- a rising list does not name 0, the number of a free place
-zero-absent : (l : List ℕ) → risingAbove 0 l ≡ true → has 0 l ≡ false
+zero-absent : (l : List ℕ) → rising_above 0 l ≡ true → has 0 l ≡ false
 zero-absent l e = step (decide (has 0 l))
   where
     step : (has 0 l ≡ true) ⊎ (has 0 l ≡ false) → has 0 l ≡ false
-    step (inl t) = let h = rising-above 0 0 l e (has_in 0 l t) in absurd (omega arith)
+    step (inl t) = let h = rising_above_lem 0 0 l e (has_in 0 l t) in absurd (omega arith)
     step (inr t) = t
 
-mark-free : (l : List ℕ) → risingAbove 0 l ≡ true → mark l free ≡ free
+mark-free : (l : List ℕ) → rising_above 0 l ≡ true → mark l free ≡ free
 mark-free l e = λ i. record { number = 0; role = Writer; epoch = 0; currency = 0; named = zero-absent l e i }
 
 clear-free : (b : Bool) → cond b free free ≡ free
@@ -81,15 +81,15 @@ module _ (k : ℕ) (s : State) where
   objects-same = spare-objects k s.places
 
   compacted-same : (n : ℕ) → compacted (widen k s) n ≡ compacted s n
-  unfolding compacted currencyOf
+  unfolding compacted currency_of
   compacted-same n = rw objects-same
 
   collected-same : (t : ℕ) → collected t (widen k s) ≡ collected t s
-  unfolding collected dead pending listed manifestOf
+  unfolding collected dead pending listed manifest_of
   collected-same t = rw objects-same
 
   answers-same : (kind : Kind) → answers kind (widen k s) ≡ answers kind s
-  unfolding answers read_by manifestOf ofCurrency currencyOf
+  unfolding answers read_by manifest_of of_currency currency_of
   answers-same (FENCE r slot) = refl
   answers-same (PUT r e n c) = refl
   answers-same (COMMIT e slot) = refl
@@ -101,18 +101,18 @@ module _ (k : ℕ) (s : State) where
   answers-same (LOOK c x) = rw objects-same
   answers-same COLLECT = rw (collected-same s.clock)
 
-  publish-wide : (w c : ℕ) (l : List ℕ) → risingAbove 0 l ≡ true → publish w c l (widen k s) ≡ widen k (publish w c l s)
-  publish-wide w c l e = ap (withPlaces (publish w c l s)) (spare-map (mark l) (mark-free l e) k s.places)
+  publish-wide : (w c : ℕ) (l : List ℕ) → rising_above 0 l ≡ true → publish w c l (widen k s) ≡ widen k (publish w c l s)
+  publish-wide w c l e = ap (with_places (publish w c l s)) (spare-map (mark l) (mark-free l e) k s.places)
 
-  fence-wide : (r : Role) → risingAbove 0 s.current.names ≡ true → fence r (widen k s) ≡ widen k (fence r s)
+  fence-wide : (r : Role) → rising_above 0 s.current.names ≡ true → fence r (widen k s) ≡ widen k (fence r s)
   fence-wide Writer e = publish-wide _ _ s.current.names e
   fence-wide Compactor e = publish-wide _ _ s.current.names e
 
   collect-wide : collect (widen k s) ≡ widen k (collect s)
-  unfolding dead pending listed manifestOf
+  unfolding dead pending listed manifest_of
   collect-wide = λ i. record {
     clock = s.clock;
-    highestCollected = maximum (s.highestCollected ∷ collected-same s.clock i);
+    highest_collected = maximum (s.highest_collected ∷ collected-same s.clock i);
     places = spare-map (clear s.clock s) (clear-free (dead s.clock s free)) k s.places i;
     older = s.older;
     current = s.current;
@@ -121,12 +121,12 @@ module _ (k : ℕ) (s : State) where
 
 -- where no row applies: a put has room, and the lists rise
 act-wide : {L : Limits} (k t : ℕ) (l : List ℕ) (s : State) → Shape L s → (kind : Kind) → Clear (rows L s t kind l) → act kind l (widen k (settle t s)) ≡ widen k (act kind l (settle t s))
-unfolding act rows wellFormed
+unfolding act rows well_formed
 act-wide k t l s r (FENCE role slot) f = fence-wide k (settle t s) role (r.rising _ (current-kept s))
 act-wide {L} k t l s r (PUT role e n c) f =
     let room = leb-false L.places (length (objects s)) f.1.1.1.1.1.0 in
     let all = r.size in
-    ap (withPlaces (settle t s)) (spare-place _ k s.places (omega arith))
+    ap (with_places (settle t s)) (spare-place _ k s.places (omega arith))
 act-wide k t l s r (COMMIT e slot) f = publish-wide k (settle t s) _ _ l (conj-true _ (passed _ f.0)).0
 act-wide k t l s r (COMPACT e slot n) f =
     ap (λ (l : List ℕ). commit l (widen k (settle t s))) (compacted-same k (settle t s) n)

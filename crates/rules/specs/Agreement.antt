@@ -7,7 +7,7 @@ use Rattle.rules.specs.Lists.{◌∈◌, keep}
 use Rattle.rules.specs.Limits.{Limits}
 use Rattle.rules.specs.State.{Manifest, State, occupied, kept}
 use Rattle.rules.specs.Words.{live}
-use Rattle.rules.specs.History.{Stored, History, lists, listAt, namedAbove, listed_at, stored_at}
+use Rattle.rules.specs.History.{Stored, History, lists, list_at, named_above, listed_at, stored_at}
 
 -- an object in its place and the same object in the history
 pub record Match (ls : List (List ℕ)) (o : Object) (p : Stored) : Type 0 where
@@ -16,7 +16,7 @@ pub record Match (ls : List (List ℕ)) (o : Object) (p : Stored) : Type 0 where
   pub epoch : o.epoch ≡ p.epoch
   pub currency : o.currency ≡ p.currency
   -- the mark says what the manifests since the put say
-  pub named : o.named ≡ namedAbove p.since p.number ls
+  pub named : o.named ≡ named_above p.since p.number ls
   pub since : p.since < length ls
 
 -- the places against the history's objects
@@ -35,7 +35,7 @@ pub record Holds (clock : ℕ) (xs ys : List Hold) : Type 0 where
 
 -- the kept manifests against the history's lists, and the holds' manifests among them
 pub record Manifests (ms : List Manifest) (xs : List Hold) (ls : List (List ℕ)) : Type 0 where
-  pub noted : (m : Manifest) → m ∈ ms → m.names ≡ listAt m.number ls
+  pub noted : (m : Manifest) → m ∈ ms → m.names ≡ list_at m.number ls
   pub past : (m : Manifest) → m ∈ ms → m.number < length ls
   pub held : (x : Hold) → x ∈ xs → (m : Manifest) × (m ∈ ms) × (m.number ≡ x.manifest)
 
@@ -47,8 +47,8 @@ pub record Agrees (L : Limits) (s : State) (h : History) : Type 0 where
   pub clock : s.clock ≡ h.time
   pub number : s.current.number ≡ length h.past
   pub names : s.current.names ≡ h.current
-  pub writer : s.current.writerEpoch ≡ h.writerEpoch
-  pub compactor : s.current.compactorEpoch ≡ h.compactorEpoch
+  pub writer : s.current.writer_epoch ≡ h.writer_epoch
+  pub compactor : s.current.compactor_epoch ≡ h.compactor_epoch
   pub things : Objects L s.places h.objects (lists h)
   pub holding : Holds s.clock s.holds h.holds
   pub manifests : Manifests (kept s) s.holds (lists h)

@@ -8,7 +8,7 @@ use Rattle.rules.specs.Limits.{limits}
 use Rattle.rules.specs.State.{State, fresh}
 use Rattle.rules.specs.Sound.{sound}
 use Rattle.rules.specs.Request.{Request, Asked}
-use Rattle.rules.specs.Step.{Reply, alone, reply, next, longestVerdict}
+use Rattle.rules.specs.Step.{Reply, alone, reply, next, longest_verdict}
 
 pub data Case : Type 0 where
   -- the request, and the reply that is claimed
@@ -17,7 +17,7 @@ pub data Case : Type 0 where
 
 -- each case is given the ledger that the one before it left, and there is room for the longest verdict
 abbrev pub after : State → Request → State
-after s q = next limits (sound limits) s (record { request = q; room = longestVerdict })
+after s q = next limits (sound limits) s (record { request = q; room = longest_verdict })
 
 unfoldable pub Holds : State → List Case → Type 0
 Holds s [] = Unit {0}

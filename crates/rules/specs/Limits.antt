@@ -11,24 +11,24 @@ pub record Limits : Type 0 where
   pub holds : ℕ
 
 -- "four occupancy words" (document 02, request 4), each of as many bits as a register has
-abbrev pub wordCount : ℕ
-wordCount = 4
+abbrev pub word_count : ℕ
+word_count = 4
 
-abbrev pub wordBits : ℕ
-wordBits = 64
+abbrev pub word_bits : ℕ
+word_bits = 64
 
 -- "256 objects (four occupancy words ..) and 64 names in a manifest" (document 02, request 4); "at most 8" holds
 abbrev pub limits : Limits
-limits = record { places = wordCount * wordBits; names = 64; holds = 8 }
+limits = record { places = word_count * word_bits; names = 64; holds = 8 }
 
 -- document 01's own limits, before request 4: "64 places", "at most 16 object numbers"
-abbrev pub firstLimits : Limits
-firstLimits = record { places = 64; names = 16; holds = 8 }
+abbrev pub first_limits : Limits
+first_limits = record { places = 64; names = 16; holds = 8 }
 
 -- "Manifests: 1 to 9": each but the current one is held
-abbrev pub manifestLimit : Limits → ℕ
-manifestLimit L = suc L.holds
+abbrev pub manifest_limit : Limits → ℕ
+manifest_limit L = suc L.holds
 
 -- "currency (ISO 4217 number, 0 to 999; 0 means a sales batch)"
-abbrev pub currencyLimit : ℕ
-currencyLimit = 999
+abbrev pub currency_limit : ℕ
+currency_limit = 999

@@ -45,9 +45,9 @@ unfoldable pub has : ℕ → List ℕ → Bool
 has n l = any (eqb n) l
 
 -- strictly rising, each number above the floor
-unfoldable pub risingAbove : ℕ → List ℕ → Bool
-risingAbove floor [] = true
-risingAbove floor (n ∷ ns) = ltb floor n && risingAbove n ns
+unfoldable pub rising_above : ℕ → List ℕ → Bool
+rising_above floor [] = true
+rising_above floor (n ∷ ns) = ltb floor n && rising_above n ns
 
 -- no number twice
 unfoldable pub distinct : List ℕ → Bool

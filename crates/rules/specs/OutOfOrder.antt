@@ -16,8 +16,8 @@ largest = 18446744073709551615
 abbrev puts : ℕ → ℕ → Request
 puts e n = Asked 1 (PUT Writer e n 978) []
 
-unfoldable pub outOfOrder : List Case
-outOfOrder =
+unfoldable pub out_of_order : List Case
+out_of_order =
     runs (Asked 1 (FENCE Writer 1) [])
     -- "12 may arrive before 11"
     ∷ starred (puts 1 12) (alone Done)
@@ -46,4 +46,4 @@ outOfOrder =
 
 -- the claim
 abbrev pub OutOfOrderHolds : Type 0
-OutOfOrderHolds = Holds fresh outOfOrder
+OutOfOrderHolds = Holds fresh out_of_order

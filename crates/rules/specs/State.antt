@@ -12,15 +12,15 @@ use Rattle.rules.specs.Limits.{Limits, limits}
 -- epochs that tell a writer that was fenced)
 pub record Manifest : Type 0 where
   pub number : ℕ
-  pub writerEpoch : ℕ
-  pub compactorEpoch : ℕ
+  pub writer_epoch : ℕ
+  pub compactor_epoch : ℕ
   pub names : List ℕ
 
--- highestCollected: "the highest number ever collected", "0 at first" (document 02, request 1); places: a free one is all zero;
+-- highest_collected: "the highest number ever collected", "0 at first" (document 02, request 1); places: a free one is all zero;
 -- older: the kept manifests before the current one, in rising number; holds: what 000 calls snapshots
 pub record State : Type 0 where
   pub clock : ℕ
-  pub highestCollected : ℕ
+  pub highest_collected : ℕ
   pub places : List Object
   pub older : List Manifest
   pub current : Manifest
@@ -29,15 +29,15 @@ pub record State : Type 0 where
 abbrev pub free : Object
 free = record { number = 0; role = Writer; epoch = 0; currency = 0; named = false }
 
-abbrev pub firstManifest : Manifest
-firstManifest = record { number = 0; writerEpoch = 0; compactorEpoch = 0; names = [] }
+abbrev pub first_manifest : Manifest
+first_manifest = record { number = 0; writer_epoch = 0; compactor_epoch = 0; names = [] }
 
 -- "The fresh ledger is the one with clock 0, .. no objects or holds, and manifest 0 with both epochs 0 and an empty list"; nothing was collected
-abbrev pub freshIn : Limits → State
-freshIn L = record { clock = 0; highestCollected = 0; places = replicate L.places free; older = []; current = firstManifest; holds = [] }
+abbrev pub fresh_in : Limits → State
+fresh_in L = record { clock = 0; highest_collected = 0; places = replicate L.places free; older = []; current = first_manifest; holds = [] }
 
 abbrev pub fresh : State
-fresh = freshIn limits
+fresh = fresh_in limits
 
 -- an object's number is not 0
 abbrev pub occupied : Object → Bool
@@ -51,6 +51,6 @@ objects s = keep occupied s.places
 abbrev pub kept : State → List Manifest
 kept s = s.older ++ (s.current ∷ [])
 
-abbrev pub epochOf : Role → Manifest → ℕ
-epochOf Writer m = m.writerEpoch
-epochOf Compactor m = m.compactorEpoch
+abbrev pub epoch_of : Role → Manifest → ℕ
+epoch_of Writer m = m.writer_epoch
+epoch_of Compactor m = m.compactor_epoch

@@ -11,30 +11,30 @@ use Rattle.rules.specs.declared.Object.{Object}
 use Rattle.rules.specs.declared.Hold.{Hold}
 use Rattle.rules.specs.Lists.{keep, any, has, sorted, maximum}
 use Rattle.rules.specs.Limits.{Limits, limits}
-use Rattle.rules.specs.State.{Manifest, State, free, occupied, objects, kept, epochOf}
-use Rattle.rules.specs.Words.{liveHolds, read_by, dead, ofCurrency, compacted}
+use Rattle.rules.specs.State.{Manifest, State, free, occupied, objects, kept, epoch_of}
+use Rattle.rules.specs.Words.{live_holds, read_by, dead, of_currency, compacted}
 use Rattle.rules.specs.Request.{Request, Asked, Unreadable, Ask}
 use Rattle.rules.specs.Table.{Row, ◌if◌, rows, first_of}
 
 -- What an accepted step does: "sets the clock to its time, removes expired holds, acts, then removes manifests that are no longer active"
 
-abbrev pub withPlaces : State → List Object → State
-withPlaces s ps = record { clock = s.clock; highestCollected = s.highestCollected; places = ps; older = s.older; current = s.current; holds = s.holds }
+abbrev pub with_places : State → List Object → State
+with_places s ps = record { clock = s.clock; highest_collected = s.highest_collected; places = ps; older = s.older; current = s.current; holds = s.holds }
 
-abbrev pub withHolds : State → List Hold → State
-withHolds s xs = record { clock = s.clock; highestCollected = s.highestCollected; places = s.places; older = s.older; current = s.current; holds = xs }
+abbrev pub with_holds : State → List Hold → State
+with_holds s xs = record { clock = s.clock; highest_collected = s.highest_collected; places = s.places; older = s.older; current = s.current; holds = xs }
 
 -- the clock is set and expired holds go
 abbrev pub settle : ℕ → State → State
-settle t s = record { clock = t; highestCollected = s.highestCollected; places = s.places; older = s.older; current = s.current; holds = liveHolds t s }
+settle t s = record { clock = t; highest_collected = s.highest_collected; places = s.places; older = s.older; current = s.current; holds = live_holds t s }
 
 -- a hold names this manifest
-abbrev pub heldBy : List Hold → Manifest → Bool
-heldBy xs m = any (λ x. eqb m.number x.manifest) xs
+abbrev pub held_by : List Hold → Manifest → Bool
+held_by xs m = any (λ x. eqb m.number x.manifest) xs
 
 -- manifests that are no longer active go
 abbrev pub tidy : State → State
-tidy s = record { clock = s.clock; highestCollected = s.highestCollected; places = s.places; older = keep (heldBy s.holds) s.older; current = s.current; holds = s.holds }
+tidy s = record { clock = s.clock; highest_collected = s.highest_collected; places = s.places; older = keep (held_by s.holds) s.older; current = s.current; holds = s.holds }
 
 -- an object that the list names is marked as named
 abbrev pub mark : List ℕ → Object → Object
@@ -44,21 +44,21 @@ mark l o = record { number = o.number; role = o.role; epoch = o.epoch; currency 
 abbrev pub publish : ℕ → ℕ → List ℕ → State → State
 publish w c l s = record {
   clock = s.clock;
-  highestCollected = s.highestCollected;
+  highest_collected = s.highest_collected;
   places = map (mark l) s.places;
   older = kept s;
-  current = record { number = suc s.current.number; writerEpoch = w; compactorEpoch = c; names = l };
+  current = record { number = suc s.current.number; writer_epoch = w; compactor_epoch = c; names = l };
   holds = s.holds;
 }
 
 -- "new manifest with the current list; that role's epoch grows by one"
 abbrev pub fence : Role → State → State
-fence Writer s = publish (suc s.current.writerEpoch) s.current.compactorEpoch s.current.names s
-fence Compactor s = publish s.current.writerEpoch (suc s.current.compactorEpoch) s.current.names s
+fence Writer s = publish (suc s.current.writer_epoch) s.current.compactor_epoch s.current.names s
+fence Compactor s = publish s.current.writer_epoch (suc s.current.compactor_epoch) s.current.names s
 
 -- "new manifest with exactly that list, epochs unchanged"
 abbrev pub commit : List ℕ → State → State
-commit l s = publish s.current.writerEpoch s.current.compactorEpoch l s
+commit l s = publish s.current.writer_epoch s.current.compactor_epoch l s
 
 -- "A put takes the lowest free place"
 unfoldable pub place : Object → List Object → List Object
@@ -67,12 +67,12 @@ place o (x ∷ xs) = cond (occupied x) (x ∷ place o xs) (o ∷ xs)
 
 -- a put changes the places alone
 abbrev pub put : Object → State → State
-put o s = withPlaces s (place o s.places)
+put o s = with_places s (place o s.places)
 
 -- a hold goes in by rising number
-unfoldable pub insertHold : Hold → List Hold → List Hold
-insertHold x [] = x ∷ []
-insertHold x (y ∷ ys) = cond (ltb x.number y.number) (x ∷ y ∷ ys) (y ∷ insertHold x ys)
+unfoldable pub insert_hold : Hold → List Hold → List Hold
+insert_hold x [] = x ∷ []
+insert_hold x (y ∷ ys) = cond (ltb x.number y.number) (x ∷ y ∷ ys) (y ∷ insert_hold x ys)
 
 -- the hold of that number has a new expiry
 abbrev pub renewed : ℕ → ℕ → Hold → Hold
@@ -93,7 +93,7 @@ collected t s = sorted (map (λ o. o.number) (keep (dead t s) (objects s)))
 abbrev pub collect : State → State
 collect s = record {
   clock = s.clock;
-  highestCollected = maximum (s.highestCollected ∷ collected s.clock s);
+  highest_collected = maximum (s.highest_collected ∷ collected s.clock s);
   places = map (clear s.clock s) s.places;
   older = s.older;
   current = s.current;
@@ -106,9 +106,9 @@ act (FENCE r slot) l s = fence r s
 act (PUT r e n c) l s = put (record { number = n; role = r; epoch = e; currency = c; named = false }) s
 act (COMMIT e slot) l s = commit l s
 act (COMPACT e slot n) l s = commit (compacted s n) s
-act (HOLD x m e) l s = withHolds s (insertHold (record { number = x; manifest = m; expiry = e }) s.holds)
-act (RENEW x e) l s = withHolds s (map (renewed x e) s.holds)
-act (RELEASE x) l s = withHolds s (keep (other x) s.holds)
+act (HOLD x m e) l s = with_holds s (insert_hold (record { number = x; manifest = m; expiry = e }) s.holds)
+act (RENEW x e) l s = with_holds s (map (renewed x e) s.holds)
+act (RELEASE x) l s = with_holds s (keep (other x) s.holds)
 act (LIST x) l s = s
 act (LOOK c x) l s = s
 act COLLECT l s = collect s
@@ -124,7 +124,7 @@ alone a = record { answer = a; list = [] }
 
 -- what each kind answers, of the ledger with the clock set and the expired holds gone
 unfoldable pub answers : Kind → State → Reply
-answers (FENCE r slot) s = alone (Epoch (suc (epochOf r s.current)))
+answers (FENCE r slot) s = alone (Epoch (suc (epoch_of r s.current)))
 answers (PUT r e n c) s = alone Done
 answers (COMMIT e slot) s = alone Done
 answers (COMPACT e slot n) s = alone Done
@@ -132,7 +132,7 @@ answers (HOLD x m e) s = alone Done
 answers (RENEW x e) s = alone Done
 answers (RELEASE x) s = alone Done
 answers (LIST x) s = record { answer = Listed (read_by s.clock s x).number; list = (read_by s.clock s x).names }
-answers (LOOK c x) s = alone (Found (maximum (ofCurrency s c (read_by s.clock s x).names)))
+answers (LOOK c x) s = alone (Found (maximum (of_currency s c (read_by s.clock s x).names)))
 answers COLLECT s = record { answer = Collected; list = collected s.clock s }
 
 -- the paper's number for each answer
@@ -157,8 +157,8 @@ abbrev pub size : Reply → ℕ
 size r = size_of r.answer (length r.list)
 
 -- "the longest verdict becomes 2,058 bytes" (document 02, request 4): every place collected
-abbrev pub longestVerdict : ℕ
-longestVerdict = size_of Collected limits.places
+abbrev pub longest_verdict : ℕ
+longest_verdict = size_of Collected limits.places
 
 -- A request's effect and reply where it is accepted
 

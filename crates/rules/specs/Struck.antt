@@ -8,8 +8,8 @@ use Rattle.rules.specs.State.{State}
 use Rattle.rules.specs.Sound.{sound}
 use Rattle.rules.specs.Request.{Ask}
 use Rattle.rules.specs.Step.{accepts, next}
-use Rattle.rules.specs.Demand3.{ledgerFrom, eventsFrom}
-use Rattle.rules.specs.Raised.{repliesFrom}
+use Rattle.rules.specs.Demand3.{ledger_from, events_from}
+use Rattle.rules.specs.Raised.{replies_from}
 
 -- ---- What is struck, and what can be: of anything that is asked one after another
 
@@ -43,22 +43,22 @@ module _ {S A : Type 0} (next : S → A → S) where
       pub nothing : all not refusals ≡ true → (marks : List Bool) → within marks refusals ≡ true → others marks xs ≡ xs
       -- all that are refused can be struck, and of those left none is refused
       pub every : within refusals refusals ≡ true
-      pub noneLeft : all not (each refuses s (others refusals xs)) ≡ true
+      pub none_left : all not (each refuses s (others refusals xs)) ≡ true
 
 -- ---- Of asks, on the rules
 
 -- not accepted: refused, or without room for the verdict
-abbrev pub notAccepted : Limits → State → Ask → Bool
-notAccepted L s a = not (accepts L (sound L) s a)
+abbrev pub not_accepted : Limits → State → Ask → Bool
+not_accepted L s a = not (accepts L (sound L) s a)
 
 pub record Unchanged (L : Limits) (s : State) (marks : List Bool) (asks : List Ask) : Type 0 where
   -- "the others' verdicts": each with its number and its list
-  pub replies : repliesFrom L s (others marks asks) ≡ others marks (repliesFrom L s asks)
+  pub replies : replies_from L s (others marks asks) ≡ others marks (replies_from L s asks)
   -- which of the others were accepted
-  pub events : eventsFrom L (sound L) s (others marks asks) ≡ others marks (eventsFrom L (sound L) s asks)
+  pub events : events_from L (sound L) s (others marks asks) ≡ others marks (events_from L (sound L) s asks)
   -- "the last ledger"
-  pub ledger : ledgerFrom L (sound L) s (others marks asks) ≡ ledgerFrom L (sound L) s asks
+  pub ledger : ledger_from L (sound L) s (others marks asks) ≡ ledger_from L (sound L) s asks
 
 pub record Strikes (L : Limits) : Type 0 where
-  pub unchanged : (s : State) (marks : List Bool) (asks : List Ask) → within marks (refusals (next L (sound L)) (notAccepted L) s asks) ≡ true → Unchanged L s marks asks
-  pub strikable : (s : State) (asks : List Ask) → Strikable (next L (sound L)) (notAccepted L) s asks
+  pub unchanged : (s : State) (marks : List Bool) (asks : List Ask) → within marks (refusals (next L (sound L)) (not_accepted L) s asks) ≡ true → Unchanged L s marks asks
+  pub strikable : (s : State) (asks : List Ask) → Strikable (next L (sound L)) (not_accepted L) s asks

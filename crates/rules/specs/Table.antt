@@ -3,10 +3,10 @@
 use Rattle.std.specs.Prelude.{Bool, not, cond, ◌&&◌, ◌||◌, List, [], ◌∷◌, ℕ, suc, leb, ltb, eqb, length}
 use Rattle.rules.specs.declared.Kind.{Kind}
 use Rattle.rules.specs.declared.Kind.TheVariants.{Fence as FENCE, Put as PUT, Commit as COMMIT, Compact as COMPACT, Hold as HOLD, Renew as RENEW, Release as RELEASE, List as LIST, Look as LOOK, Collect as COLLECT}
-use Rattle.rules.specs.Lists.{conj, any, none, risingAbove}
-use Rattle.rules.specs.Limits.{Limits, currencyLimit}
-use Rattle.rules.specs.State.{State, objects, epochOf}
-use Rattle.rules.specs.Words.{liveHolds, isLive, active, stored, currencyOf, ofCurrency, read_by}
+use Rattle.rules.specs.Lists.{conj, any, none, rising_above}
+use Rattle.rules.specs.Limits.{Limits, currency_limit}
+use Rattle.rules.specs.State.{State, objects, epoch_of}
+use Rattle.rules.specs.Words.{live_holds, is_live, active, stored, currency_of, of_currency, read_by}
 
 -- What a record can say of a step, beside the bytes: a step of which row 2 does not apply. Only COMMIT has a list.
 
@@ -14,26 +14,26 @@ abbrev pub nonzero : ℕ → Bool
 nonzero n = not (eqb n 0)
 
 -- "expiry neither 0 nor at least the step's time" is refused
-abbrev pub expiryFits : ℕ → ℕ → Bool
-expiryFits t e = eqb e 0 || leb t e
+abbrev pub expiry_fits : ℕ → ℕ → Bool
+expiry_fits t e = eqb e 0 || leb t e
 
-unfoldable pub wellFormed : Limits → ℕ → Kind → List ℕ → Bool
-wellFormed L t (FENCE r slot) l = none l
-wellFormed L t (PUT r e n c) l = conj (none l ∷ nonzero n ∷ leb c currencyLimit ∷ [])
-wellFormed L t (COMMIT e slot) l = conj (risingAbove 0 l ∷ leb (length l) L.names ∷ [])
-wellFormed L t (COMPACT e slot n) l = conj (none l ∷ nonzero n ∷ [])
-wellFormed L t (HOLD x m e) l = conj (none l ∷ nonzero x ∷ expiryFits t e ∷ [])
-wellFormed L t (RENEW x e) l = conj (none l ∷ nonzero x ∷ expiryFits t e ∷ [])
-wellFormed L t (RELEASE x) l = conj (none l ∷ nonzero x ∷ [])
-wellFormed L t (LIST x) l = none l
-wellFormed L t (LOOK c x) l = conj (none l ∷ nonzero c ∷ leb c currencyLimit ∷ [])
-wellFormed L t COLLECT l = none l
+unfoldable pub well_formed : Limits → ℕ → Kind → List ℕ → Bool
+well_formed L t (FENCE r slot) l = none l
+well_formed L t (PUT r e n c) l = conj (none l ∷ nonzero n ∷ leb c currency_limit ∷ [])
+well_formed L t (COMMIT e slot) l = conj (rising_above 0 l ∷ leb (length l) L.names ∷ [])
+well_formed L t (COMPACT e slot n) l = conj (none l ∷ nonzero n ∷ [])
+well_formed L t (HOLD x m e) l = conj (none l ∷ nonzero x ∷ expiry_fits t e ∷ [])
+well_formed L t (RENEW x e) l = conj (none l ∷ nonzero x ∷ expiry_fits t e ∷ [])
+well_formed L t (RELEASE x) l = conj (none l ∷ nonzero x ∷ [])
+well_formed L t (LIST x) l = none l
+well_formed L t (LOOK c x) l = conj (none l ∷ nonzero c ∷ leb c currency_limit ∷ [])
+well_formed L t COLLECT l = none l
 
 -- The rows
 
 -- "unknown kind or role; wrong fields, order or length; object 0; .." (bytes that are no step are Unreadable, in Step.antt)
 abbrev pub row2 : Limits → ℕ → Kind → List ℕ → Bool
-row2 L t k l = not (wellFormed L t k l)
+row2 L t k l = not (well_formed L t k l)
 
 -- "time below the clock"
 abbrev pub row3 : State → ℕ → Bool
@@ -66,7 +66,7 @@ row9 s n = stored s n
 -- "exactly when the number isn't stored and is at most the highest number ever collected" (document 02, request 1): with row 9 a name is written once
 -- (000; claimed in WriteOnce.antt), and 12 may arrive before 11
 abbrev pub row10 : State → ℕ → Bool
-row10 s n = leb n s.highestCollected && not (stored s n)
+row10 s n = leb n s.highest_collected && not (stored s n)
 
 -- "PUT: 64 objects stored", by now 256 (document 02, request 4)
 abbrev pub row11 : Limits → State → Bool
@@ -74,7 +74,7 @@ row11 L s = leb L.places (length (objects s))
 
 -- "HOLD: a live hold has this number"
 abbrev pub row12 : State → ℕ → ℕ → Bool
-row12 s t x = isLive t s x
+row12 s t x = is_live t s x
 
 -- "HOLD: manifest not active"
 abbrev pub row13 : State → ℕ → ℕ → Bool
@@ -82,19 +82,19 @@ row13 s t m = not (active t s m)
 
 -- "HOLD: 8 live holds"
 abbrev pub row14 : Limits → State → ℕ → Bool
-row14 L s t = leb L.holds (length (liveHolds t s))
+row14 L s t = leb L.holds (length (live_holds t s))
 
 -- "RENEW, RELEASE, LIST, LOOK: nonzero hold not live"
 abbrev pub row15 : State → ℕ → ℕ → Bool
-row15 s t x = nonzero x && not (isLive t s x)
+row15 s t x = nonzero x && not (is_live t s x)
 
 -- "LOOK: no object of that currency in that manifest"
 abbrev pub row16 : State → ℕ → ℕ → ℕ → Bool
-row16 s t c x = none (ofCurrency s c (read_by t s x).names)
+row16 s t c x = none (of_currency s c (read_by t s x).names)
 
 -- "COMPACT: no object of that currency in the current manifest"
 abbrev pub row17 : State → ℕ → Bool
-row17 s n = none (ofCurrency s (currencyOf s n) s.current.names)
+row17 s n = none (of_currency s (currency_of s n) s.current.names)
 
 -- a row's number, and whether it applies
 pub record Row : Type 0 where
@@ -109,12 +109,12 @@ n if b = record { number = n; applies = b }
 unfoldable pub rows : Limits → State → ℕ → Kind → List ℕ → List Row
 rows L s t (FENCE r slot) l = (2 if row2 L t (FENCE r slot) l) ∷ (3 if row3 s t) ∷ (6 if row6 s slot) ∷ (7 if row7 s slot) ∷ []
 rows L s t (PUT r e n c) l =
-    (2 if row2 L t (PUT r e n c) l) ∷ (3 if row3 s t) ∷ (4 if row4 (epochOf r s.current) e) ∷ (9 if row9 s n) ∷ (10 if row10 s n) ∷ (11 if row11 L s) ∷ []
+    (2 if row2 L t (PUT r e n c) l) ∷ (3 if row3 s t) ∷ (4 if row4 (epoch_of r s.current) e) ∷ (9 if row9 s n) ∷ (10 if row10 s n) ∷ (11 if row11 L s) ∷ []
 rows L s t (COMMIT e slot) l =
-    (2 if row2 L t (COMMIT e slot) l) ∷ (3 if row3 s t) ∷ (4 if row4 s.current.writerEpoch e) ∷ (5 if row5 s.current.writerEpoch e)
+    (2 if row2 L t (COMMIT e slot) l) ∷ (3 if row3 s t) ∷ (4 if row4 s.current.writer_epoch e) ∷ (5 if row5 s.current.writer_epoch e)
     ∷ (6 if row6 s slot) ∷ (7 if row7 s slot) ∷ (8 if row8 s l) ∷ []
 rows L s t (COMPACT e slot n) l =
-    (2 if row2 L t (COMPACT e slot n) l) ∷ (3 if row3 s t) ∷ (4 if row4 s.current.compactorEpoch e) ∷ (5 if row5 s.current.compactorEpoch e)
+    (2 if row2 L t (COMPACT e slot n) l) ∷ (3 if row3 s t) ∷ (4 if row4 s.current.compactor_epoch e) ∷ (5 if row5 s.current.compactor_epoch e)
     ∷ (6 if row6 s slot) ∷ (7 if row7 s slot) ∷ (8 if row8 s (n ∷ [])) ∷ (17 if row17 s n) ∷ []
 rows L s t (HOLD x m e) l = (2 if row2 L t (HOLD x m e) l) ∷ (3 if row3 s t) ∷ (12 if row12 s t x) ∷ (13 if row13 s t m) ∷ (14 if row14 L s t) ∷ []
 rows L s t (RENEW x e) l = (2 if row2 L t (RENEW x e) l) ∷ (3 if row3 s t) ∷ (15 if row15 s t x) ∷ []
@@ -131,13 +131,13 @@ first_of (r ∷ rs) = cond r.applies r.number (first_of rs)
 -- The rows that several kinds share, as the code asks them of numbers (src/rows.rt)
 
 -- rows 6 and 7, by the current manifest's number
-abbrev pub slotRow : ℕ → ℕ → ℕ
-slotRow current slot = first_of ((6 if leb slot current) ∷ (7 if ltb (suc current) slot) ∷ [])
+abbrev pub slot_row : ℕ → ℕ → ℕ
+slot_row current slot = first_of ((6 if leb slot current) ∷ (7 if ltb (suc current) slot) ∷ [])
 
 -- row 4, by the role's epoch
-abbrev pub epochRow : ℕ → ℕ → ℕ
-epochRow current e = first_of ((4 if row4 current e) ∷ [])
+abbrev pub epoch_row : ℕ → ℕ → ℕ
+epoch_row current e = first_of ((4 if row4 current e) ∷ [])
 
 -- rows 4 and 5
-abbrev pub fenceRow : ℕ → ℕ → ℕ
-fenceRow current e = first_of ((4 if row4 current e) ∷ (5 if row5 current e) ∷ [])
+abbrev pub fence_row : ℕ → ℕ → ℕ
+fence_row current e = first_of ((4 if row4 current e) ∷ (5 if row5 current e) ∷ [])

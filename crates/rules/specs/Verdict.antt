@@ -8,7 +8,7 @@ use Rattle.rules.specs.Lists.{◌∈◌}
 use Rattle.rules.specs.Limits.{Limits}
 use Rattle.rules.specs.State.{State}
 use Rattle.rules.specs.Words.{stored}
-use Rattle.rules.specs.Table.{wellFormed, Row}
+use Rattle.rules.specs.Table.{well_formed, Row}
 use Rattle.rules.specs.Sound.{sound}
 use Rattle.rules.specs.Request.{Request, Asked, Ask}
 use Rattle.rules.specs.Step.{effect, rows_of, verdict, accepts, next}
@@ -53,13 +53,13 @@ module _ (L : Limits) (test : State → Bool) where
 -- "exactly when the ledger is sound, it is well formed and on time, its writer is known and unfenced, its slot is the next one,
 -- every object it names is stored and its verdict fits"
 pub record MayCommit (L : Limits) (s : State) (t e slot : ℕ) (l : List ℕ) (room : ℕ) : Type 0 where
-  pub isSound : sound L s ≡ true
-  pub formed : wellFormed L t (COMMIT e slot) l ≡ true
-  pub onTime : s.clock ≤ t
-  pub known : (1 ≤ e) × (e ≤ s.current.writerEpoch)
-  pub unfenced : s.current.writerEpoch ≤ e
-  pub nextSlot : slot ≡ suc s.current.number
-  pub allStored : (n : ℕ) → n ∈ l → stored s n ≡ true
+  pub is_sound : sound L s ≡ true
+  pub formed : well_formed L t (COMMIT e slot) l ≡ true
+  pub on_time : s.clock ≤ t
+  pub known : (1 ≤ e) × (e ≤ s.current.writer_epoch)
+  pub unfenced : s.current.writer_epoch ≤ e
+  pub next_slot : slot ≡ suc s.current.number
+  pub all_stored : (n : ℕ) → n ∈ l → stored s n ≡ true
   pub fits : 7 ≤ room
 
 pub record CommitExact (L : Limits) (s : State) (t e slot : ℕ) (l : List ℕ) (room : ℕ) : Type 0 where

@@ -4,10 +4,10 @@
 mod rows;
 
 ghost use Rattle.std.specs.Prelude.{◌≡◌, [], ◌∷◌};
-ghost use Rattle.rules.specs.Lists.{conj, risingAbove};
+ghost use Rattle.rules.specs.Lists.{conj, rising_above};
 ghost use Rattle.rules.specs.Limits.{limits};
-ghost use Rattle.rules.specs.Table.{expiryFits, wellFormed};
-ghost use Rattle.rules.specs.Typed.{isPadded, requestOf, canSay};
+ghost use Rattle.rules.specs.Table.{expiry_fits, well_formed};
+ghost use Rattle.rules.specs.Typed.{is_padded, request_of, can_say};
 
 pub use rows::{epoch_row, fence_row, slot_row};
 
@@ -145,7 +145,7 @@ pub struct Hold {
 
 // Whether the first `count` places say a list: there are that many, and the others are 0.
 pub fn is_padded(count: usize, places: &[u64]) -> bool
-    ensures { result ≡ isPadded count places.now }
+    ensures { result ≡ is_padded count places.now }
 {
     if places.len() < count {
         return false;
@@ -162,7 +162,7 @@ pub fn is_padded(count: usize, places: &[u64]) -> bool
 
 // Whether the numbers rise strictly from above 0.
 pub fn is_rising(list: &[u64]) -> bool
-    ensures { result ≡ risingAbove 0 list.now }
+    ensures { result ≡ rising_above 0 list.now }
 {
     let mut floor: u64 = 0;
     let mut i = 0;
@@ -179,7 +179,7 @@ pub fn is_rising(list: &[u64]) -> bool
 
 // Whether a hold may expire then: never, or not before the step's time.
 fn expiry_fits(time: u64, expiry: u64) -> bool
-    ensures { result ≡ expiryFits time expiry }
+    ensures { result ≡ expiry_fits time expiry }
 {
     if expiry == 0 {
         return true;
@@ -201,7 +201,7 @@ fn all_three(a: bool, b: bool, c: bool) -> bool
 
 // Whether a record can say the kind with this list beside it. Only COMMIT has a list.
 fn is_formed(time: u64, kind: Kind, list: &[u64]) -> bool
-    ensures { result ≡ wellFormed limits time kind list.now }
+    ensures { result ≡ well_formed limits time kind list.now }
 {
     let none = list.len() == 0;
     match kind {
@@ -237,7 +237,7 @@ fn is_formed(time: u64, kind: Kind, list: &[u64]) -> bool
 
 // Whether a step is one that a record can say: row 2 of the refusal table does not apply.
 pub fn is_well_formed(step: Step) -> bool
-    ensures { result ≡ canSay (requestOf step) }
+    ensures { result ≡ can_say (request_of step) }
 {
     let list = step.list;
     let count = list.count;

@@ -7,54 +7,54 @@ use Prim.Native.Nat.{ℕ, ◌-◌}
 use lib.Dec.{eqb, lit≤}
 use lib.ListN.{length, drop, get_or}
 use Rattle.rules.specs.Lists.{all}
-use Rattle.records.specs.Format.{mostFields, inPlaces}
-use Rattle.records.specs.Found.{Placed, is_whole, placedAll}
+use Rattle.records.specs.Format.{most_fields, in_places}
+use Rattle.records.specs.Found.{Placed, is_whole, placed_all}
 use Rattle.records.specs.Walk.{Walked, Found, Broken, walk}
-use Rattle.records.proofs.Places.{padded-get}
+use Rattle.records.proofs.Places.{padded_get}
 use Rattle.records.proofs.RoundTripRecords.{picked}
 use Rattle.sheets.specs.declared.Sheet.{Sheet}
 use Rattle.sheets.specs.declared.SheetRead.{SheetRead}
 use Rattle.sheets.specs.declared.SheetRead.TheVariants.{Read, Malformed}
-use Rattle.sheets.specs.Sheets.{sheetTag, sheetFields, sheetFormed, sheetFrom, blankSheet, sheetOfWalk, decodeSheet}
+use Rattle.sheets.specs.Sheets.{sheet_tag, sheet_fields, sheet_formed, sheet_from, blank_sheet, sheet_of_walk, decode_sheet}
 
-pub decode-torn : (bs : List ℕ) → is_whole bs ≡ false → decodeSheet bs ≡ Malformed
-unfolding decodeSheet
+pub decode-torn : (bs : List ℕ) → is_whole bs ≡ false → decode_sheet bs ≡ Malformed
+unfolding decode_sheet
 decode-torn bs e = rw e
 
-pub decode-other : (bs : List ℕ) → eqb (get_or bs 0 0) sheetTag ≡ false → decodeSheet bs ≡ Malformed
-unfolding decodeSheet
+pub decode-other : (bs : List ℕ) → eqb (get_or bs 0 0) sheet_tag ≡ false → decode_sheet bs ≡ Malformed
+unfolding decode_sheet
 decode-other bs e = rw (e, and-false (is_whole bs))
 
-pub decode-whole : (bs : List ℕ) → is_whole bs ≡ true → eqb (get_or bs 0 0) sheetTag ≡ true → decodeSheet bs ≡ sheetOfWalk (walk (sheetFields blankSheet) (drop 3 bs))
-unfolding decodeSheet
+pub decode-whole : (bs : List ℕ) → is_whole bs ≡ true → eqb (get_or bs 0 0) sheet_tag ≡ true → decode_sheet bs ≡ sheet_of_walk (walk (sheet_fields blank_sheet) (drop 3 bs))
+unfolding decode_sheet
 decode-whole bs e t = rw (e, t)
 
-pub fields-placed : (s : Sheet) → Placed (inPlaces (sheetFields s))
+pub fields_placed : (s : Sheet) → Placed (in_places (sheet_fields s))
 unfolding all
-fields-placed s = record { places = refl; within = lit≤ tt; narrow = refl }
+fields_placed s = record { places = refl; within = lit≤ tt; narrow = refl }
 
 -- numbers in their places say what they say
-pub sheet-placed : (w : Walked) → sheetOfWalk (placedAll w) ≡ sheetOfWalk w
-sheet-placed Broken = refl
-sheet-placed (Found v l) =
-    let k = mostFields - length v in
-    rw (padded-get v k 0, padded-get v k 1, padded-get v k 2, padded-get v k 3)
+pub sheet_placed : (w : Walked) → sheet_of_walk (placed_all w) ≡ sheet_of_walk w
+sheet_placed Broken = refl
+sheet_placed (Found v l) =
+    let k = most_fields - length v in
+    rw (padded_get v k 0, padded_get v k 1, padded_get v k 2, padded_get v k 3)
 
 -- ---- what is read is well formed
 
 abbrev FormedBy : SheetRead → Type 0
 FormedBy Malformed = Unit {0}
-FormedBy (Read s) = sheetFormed s ≡ true
+FormedBy (Read s) = sheet_formed s ≡ true
 
-formed-by : (w : Walked) → FormedBy (sheetOfWalk w)
-formed-by Broken = tt
-formed-by (Found v l) = picked FormedBy (sheetFormed (sheetFrom v)) (Read (sheetFrom v)) Malformed (λ e. e) (λ e. tt)
+formed_by_lem : (w : Walked) → FormedBy (sheet_of_walk w)
+formed_by_lem Broken = tt
+formed_by_lem (Found v l) = picked FormedBy (sheet_formed (sheet_from v)) (Read (sheet_from v)) Malformed (λ e. e) (λ e. tt)
 
-decode-formed : (bs : List ℕ) → FormedBy (decodeSheet bs)
-unfolding decodeSheet
+decode-formed : (bs : List ℕ) → FormedBy (decode_sheet bs)
+unfolding decode_sheet
 decode-formed bs =
-    picked FormedBy (is_whole bs && eqb (get_or bs 0 0) sheetTag) (sheetOfWalk (walk (sheetFields blankSheet) (drop 3 bs))) Malformed
-    (λ e. formed-by (walk (sheetFields blankSheet) (drop 3 bs))) (λ e. tt)
+    picked FormedBy (is_whole bs && eqb (get_or bs 0 0) sheet_tag) (sheet_of_walk (walk (sheet_fields blank_sheet) (drop 3 bs))) Malformed
+    (λ e. formed_by_lem (walk (sheet_fields blank_sheet) (drop 3 bs))) (λ e. tt)
 
-pub read-formed : (bs : List ℕ) (s : Sheet) → decodeSheet bs ≡ Read s → sheetFormed s ≡ true
+pub read-formed : (bs : List ℕ) (s : Sheet) → decode_sheet bs ≡ Read s → sheet_formed s ≡ true
 read-formed bs s e = subst FormedBy e (decode-formed bs)

@@ -4,16 +4,16 @@ use Rattle.std.specs.Prelude.{◌≡◌, true, List, [], ℕ, length}
 use Rattle.records.specs.RoundTrip.{all_fit, are_bytes}
 use Rattle.sheets.specs.declared.Sheet.{Sheet}
 use Rattle.sheets.specs.declared.SheetRead.TheVariants.{Read, Malformed}
-use Rattle.sheets.specs.Sheets.{sheetFields, sheetFormed, encodeSheet, decodeSheet}
+use Rattle.sheets.specs.Sheets.{sheet_fields, sheet_formed, encode_sheet, decode_sheet}
 
 pub record SheetRoundTrip : Type 0 where
   -- reading what was written gives the sheet
-  pub readsWritten : (s : Sheet) → sheetFormed s ≡ true → all_fit (sheetFields s) [] ≡ true → decodeSheet (encodeSheet s) ≡ Read s
+  pub reads_written : (s : Sheet) → sheet_formed s ≡ true → all_fit (sheet_fields s) [] ≡ true → decode_sheet (encode_sheet s) ≡ Read s
   -- what was read is well formed, and writing it gives the bytes
-  pub writesRead : (bs : List ℕ) (s : Sheet) → are_bytes bs ≡ true → decodeSheet bs ≡ Read s
-      → (sheetFormed s ≡ true) × (all_fit (sheetFields s) [] ≡ true) × (encodeSheet s ≡ bs)
+  pub writes_read : (bs : List ℕ) (s : Sheet) → are_bytes bs ≡ true → decode_sheet bs ≡ Read s
+      → (sheet_formed s ≡ true) × (all_fit (sheet_fields s) [] ≡ true) × (encode_sheet s ≡ bs)
   -- bytes that no sheet is written as are refused
-  pub refuses : (bs : List ℕ) → are_bytes bs ≡ true → ((s : Sheet) → sheetFormed s ≡ true → all_fit (sheetFields s) [] ≡ true → encodeSheet s ≡ bs → ⊥)
-      → decodeSheet bs ≡ Malformed
+  pub refuses : (bs : List ℕ) → are_bytes bs ≡ true → ((s : Sheet) → sheet_formed s ≡ true → all_fit (sheet_fields s) [] ≡ true → encode_sheet s ≡ bs → ⊥)
+      → decode_sheet bs ≡ Malformed
   -- every sheet has 41 bytes
-  pub size : (s : Sheet) → length (encodeSheet s) ≡ 41
+  pub size : (s : Sheet) → length (encode_sheet s) ≡ 41

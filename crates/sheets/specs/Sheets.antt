@@ -2,10 +2,10 @@
 -- Assumes nothing.
 use Rattle.std.specs.Prelude.{Bool, cond, ◌&&◌, List, [], ◌∷◌, ℕ, ◌%◌, leb, eqb, drop, get_or}
 use Rattle.rules.specs.Lists.{conj}
-use Rattle.rules.specs.Limits.{currencyLimit}
+use Rattle.rules.specs.Limits.{currency_limit}
 use Rattle.rules.specs.Table.{nonzero}
 use Rattle.records.specs.declared.Field.{Field}
-use Rattle.records.specs.Format.{inner, object, currency, recordOf}
+use Rattle.records.specs.Format.{inner, object, currency, record_of}
 use Rattle.records.specs.Found.{is_whole}
 use Rattle.records.specs.Walk.{Walked, Found, Broken, walk}
 use Rattle.records.specs.Writing.{Writing, writing}
@@ -14,8 +14,8 @@ use Rattle.sheets.specs.declared.SheetRead.{SheetRead}
 use Rattle.sheets.specs.declared.SheetRead.TheVariants.{Read, Malformed}
 
 -- "outer tag 50 with object (05, ..), currency (06, ..), and new tags 0C numerator and 0D denominator, 8 bytes each"
-abbrev pub sheetTag : ℕ
-sheetTag = 0x50
+abbrev pub sheet_tag : ℕ
+sheet_tag = 0x50
 
 abbrev pub numerator : ℕ → Field
 numerator n = inner 0x0C 8 n
@@ -23,49 +23,49 @@ numerator n = inner 0x0C 8 n
 abbrev pub denominator : ℕ → Field
 denominator n = inner 0x0D 8 n
 
-abbrev pub sheetFields : Sheet → List Field
-sheetFields s = object s.object ∷ currency s.currency ∷ numerator s.numerator ∷ denominator s.denominator ∷ []
+abbrev pub sheet_fields : Sheet → List Field
+sheet_fields s = object s.object ∷ currency s.currency ∷ numerator s.numerator ∷ denominator s.denominator ∷ []
 
 -- "both 1 to 1,000,000,000"
-abbrev pub largestRate : ℕ
-largestRate = 1000000000
+abbrev pub largest_rate : ℕ
+largest_rate = 1000000000
 
-abbrev pub isRate : ℕ → Bool
-isRate n = nonzero n && leb n largestRate
+abbrev pub is_rate : ℕ → Bool
+is_rate n = nonzero n && leb n largest_rate
 
 -- "object (05, not 0), currency (06, 1 to 999)"
-unfoldable pub sheetFormed : Sheet → Bool
-sheetFormed s =
-    conj (nonzero s.object ∷ nonzero s.currency ∷ leb s.currency currencyLimit ∷ isRate s.numerator ∷ isRate s.denominator ∷ [])
+unfoldable pub sheet_formed : Sheet → Bool
+sheet_formed s =
+    conj (nonzero s.object ∷ nonzero s.currency ∷ leb s.currency currency_limit ∷ is_rate s.numerator ∷ is_rate s.denominator ∷ [])
 
 -- the record of a sheet
-abbrev pub encodeSheet : Sheet → List ℕ
-encodeSheet s = recordOf sheetTag (sheetFields s) []
+abbrev pub encode_sheet : Sheet → List ℕ
+encode_sheet s = record_of sheet_tag (sheet_fields s) []
 
-abbrev pub sheetWriting : Sheet → List ℕ → Writing
-sheetWriting s buffer = writing (sheetFormed s) (encodeSheet s) buffer
+abbrev pub sheet_writing : Sheet → List ℕ → Writing
+sheet_writing s buffer = writing (sheet_formed s) (encode_sheet s) buffer
 
 -- The reader
 
 -- the sheet with the numbers of its fields
-abbrev pub sheetFrom : List ℕ → Sheet
-sheetFrom v = record { object = get_or v 0 0; currency = get_or v 1 0 % 65536; numerator = get_or v 2 0; denominator = get_or v 3 0 }
+abbrev pub sheet_from : List ℕ → Sheet
+sheet_from v = record { object = get_or v 0 0; currency = get_or v 1 0 % 65536; numerator = get_or v 2 0; denominator = get_or v 3 0 }
 
-abbrev pub blankSheet : Sheet
-blankSheet = record { object = 0; currency = 0; numerator = 0; denominator = 0 }
+abbrev pub blank_sheet : Sheet
+blank_sheet = record { object = 0; currency = 0; numerator = 0; denominator = 0 }
 
 abbrev pub formed : Sheet → SheetRead
-formed s = cond (sheetFormed s) (Read s) Malformed
+formed s = cond (sheet_formed s) (Read s) Malformed
 
-abbrev pub sheetOfWalk : Walked → SheetRead
-sheetOfWalk Broken = Malformed
-sheetOfWalk (Found v l) = formed (sheetFrom v)
+abbrev pub sheet_of_walk : Walked → SheetRead
+sheet_of_walk Broken = Malformed
+sheet_of_walk (Found v l) = formed (sheet_from v)
 
 -- the sheet that bytes are: one field of that outer tag and nothing behind it
-unfoldable pub decodeSheet : List ℕ → SheetRead
-decodeSheet bs = cond (is_whole bs && eqb (get_or bs 0 0) sheetTag) (sheetOfWalk (walk (sheetFields blankSheet) (drop 3 bs))) Malformed
+unfoldable pub decode_sheet : List ℕ → SheetRead
+decode_sheet bs = cond (is_whole bs && eqb (get_or bs 0 0) sheet_tag) (sheet_of_walk (walk (sheet_fields blank_sheet) (drop 3 bs))) Malformed
 
 -- the paper's number for what the reader answers: 2 for a malformed sheet, else 0
-abbrev pub sheetCode : SheetRead → ℕ
-sheetCode (Read s) = 0
-sheetCode Malformed = 2
+abbrev pub sheet_code : SheetRead → ℕ
+sheet_code (Read s) = 0
+sheet_code Malformed = 2

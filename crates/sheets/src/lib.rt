@@ -1,7 +1,7 @@
 // Rate sheets (document 02, request 2): a record like the others, read and written, each undoing the other.
 ghost use Rattle.std.specs.Prelude.{◌≡◌};
-ghost use Rattle.records.specs.Format.{inPlaces};
-ghost use Rattle.sheets.specs.Sheets.{numerator as numeratorField, denominator as denominatorField, sheetFields, isRate, sheetFormed, sheetFrom, formed, decodeSheet, sheetWriting};
+ghost use Rattle.records.specs.Format.{in_places};
+ghost use Rattle.sheets.specs.Sheets.{numerator as numeratorField, denominator as denominatorField, sheet_fields, is_rate, sheet_formed, sheet_from, formed, decode_sheet, sheet_writing};
 
 use records::{FIELDS, Field, Fields, Write};
 
@@ -52,7 +52,7 @@ fn denominator(n: u64) -> Field
 }
 
 fn sheet_fields(s: Sheet) -> Fields
-    ensures { result ≡ inPlaces (sheetFields s) }
+    ensures { result ≡ in_places (sheet_fields s) }
 {
     let o = records::object(s.object);
     let c = records::currency(s.currency);
@@ -62,13 +62,13 @@ fn sheet_fields(s: Sheet) -> Fields
 }
 
 fn is_rate(n: u64) -> bool
-    ensures { result ≡ isRate n }
+    ensures { result ≡ is_rate n }
 {
     n != 0 && n <= LARGEST_RATE
 }
 
 fn is_formed(s: Sheet) -> bool
-    ensures { result ≡ sheetFormed s }
+    ensures { result ≡ sheet_formed s }
 {
     if s.object == 0 {
         return false;
@@ -89,7 +89,7 @@ fn is_formed(s: Sheet) -> bool
 
 // The sheet with the numbers of its fields.
 fn sheet_from(v: [u64; FIELDS]) -> SheetRead
-    ensures { result ≡ formed (sheetFrom v) }
+    ensures { result ≡ formed (sheet_from v) }
 {
     let sheet = Sheet {
         object: v[0],
@@ -105,7 +105,7 @@ fn sheet_from(v: [u64; FIELDS]) -> SheetRead
 
 // Takes all the bytes lent as one record.
 pub fn read_sheet(bytes: &[u8]) -> SheetRead
-    ensures { result ≡ decodeSheet bytes.now }
+    ensures { result ≡ decode_sheet bytes.now }
 {
     if !records::is_whole(bytes) {
         return SheetRead::Malformed;
@@ -130,7 +130,7 @@ pub fn read_sheet(bytes: &[u8]) -> SheetRead
 
 // Writes a sheet's record at the start of `out`; the bytes beyond it stay. Where it refuses nothing is written.
 pub fn write_sheet(sheet: Sheet, out: &mut [u8]) -> Write
-    ensures { sheetWriting sheet out.old ≡ record { answer = result; buffer = out.new } }
+    ensures { sheet_writing sheet out.old ≡ record { answer = result; buffer = out.new } }
 {
     if !is_formed(sheet) {
         return Write::Malformed;

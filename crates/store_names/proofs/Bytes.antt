@@ -11,24 +11,24 @@ use lib.ListN.{length, set, take, drop, length-append, length-drop}
 use lib.Seq.{set_split, take_at, drop_at, drop-drop, length-take-le}
 use borrow.Author.Tests.{le-ltb, lt-ltb, eq-eqb, eqb-true}
 use Rattle.store_names.specs.declared.NameWrite.TheVariants.{Written, Full}
-use Rattle.store_names.specs.Names.{sameBytes, putFirst}
+use Rattle.store_names.specs.Names.{same_bytes, put_first}
 
 -- ---- the same bytes
 
-pub same-eq : (l m : List ℕ) → sameBytes l m ≡ true → l ≡ m
-unfolding sameBytes
-same-eq [] [] h = refl
-same-eq [] (b ∷ m) h = cc
-same-eq (a ∷ l) [] h = cc
-same-eq (a ∷ l) (b ∷ m) h =
-    let t = (and-eq-true_iff (eqb a b) (sameBytes l m)).0 h in
-    ap₂ ◌∷◌ (eqb-true a b t.0) (same-eq l m t.1)
+pub same_eq : (l m : List ℕ) → same_bytes l m ≡ true → l ≡ m
+unfolding same_bytes
+same_eq [] [] h = refl
+same_eq [] (b ∷ m) h = cc
+same_eq (a ∷ l) [] h = cc
+same_eq (a ∷ l) (b ∷ m) h =
+    let t = (and-eq-true_iff (eqb a b) (same_bytes l m)).0 h in
+    ap₂ ◌∷◌ (eqb-true a b t.0) (same_eq l m t.1)
 
-pub same_not : (l m : List ℕ) → (l ≡ m → ⊥) → sameBytes l m ≡ false
-same_not l m other = (not-eq-not {b = false}).0 (λ h. other (same-eq l m h))
+pub same_not : (l m : List ℕ) → (l ≡ m → ⊥) → same_bytes l m ≡ false
+same_not l m other = (not-eq-not {b = false}).0 (λ h. other (same_eq l m h))
 
-pub same_refl : (l : List ℕ) → sameBytes l l ≡ true
-unfolding sameBytes
+pub same_refl : (l : List ℕ) → same_bytes l l ≡ true
+unfolding same_bytes
 same_refl [] = refl
 same_refl (b ∷ l) = rw (eq-eqb b b refl) (same_refl l)
 
@@ -39,8 +39,8 @@ drop-set l i v h = rw (set_split l i v h, add-one) (drop_at (take i l) (v ∷ dr
 
 -- ---- bytes put first
 
-pub first-full : (bytes buffer : List ℕ) → length buffer < length bytes → putFirst bytes buffer ≡ record { answer = Full; buffer = buffer }
-unfolding putFirst
+pub first-full : (bytes buffer : List ℕ) → length buffer < length bytes → put_first bytes buffer ≡ record { answer = Full; buffer = buffer }
+unfolding put_first
 first-full bytes buffer h = rw (lt-ltb (length buffer) (length bytes) h)
 
 -- what is lent behind a first part, for k bytes
@@ -50,18 +50,18 @@ part_length x buffer k room =
     rw (size, drop_at x (drop (length x) buffer) (length x) refl) (length-take-le k (drop (length x) buffer) (omega (arith, length-drop (length x) buffer)))
 
 -- a part more, from a, where the parts so far end, to b: it goes over what stood there, and the bytes beyond it stay
-part-more : (x y buffer : List ℕ) (a b : ℕ) → length x ≡ a → a + length y ≡ b
+part_more : (x y buffer : List ℕ) (a b : ℕ) → length x ≡ a → a + length y ≡ b
     → take a (x ++ drop a buffer) ++ (y ++ drop (b - a) (drop a (x ++ drop a buffer))) ≡ (x ++ y) ++ drop b buffer
-part-more x y buffer a b long end =
+part_more x y buffer a b long end =
     let rest : a + (b - a) ≡ b = omega arith in
     rw (take_at x (drop a buffer) a long, drop_at x (drop a buffer) a long, drop-drop, rest, append_assoc)
 
 -- a part, and two more
-pub first-parts : (x y z buffer : List ℕ) (a b c : ℕ) → length x ≡ a → a + length y ≡ b → b + length z ≡ c → c ≤ length buffer
+pub first_parts : (x y z buffer : List ℕ) (a b c : ℕ) → length x ≡ a → a + length y ≡ b → b + length z ≡ c → c ≤ length buffer
     → (left : List ℕ) → left ≡ take a (x ++ drop a buffer) ++ (y ++ drop (b - a) (drop a (x ++ drop a buffer)))
-    → putFirst (x ++ y ++ z) buffer ≡ record { answer = Written c; buffer = take b left ++ (z ++ drop (c - b) (drop b left)) }
-unfolding putFirst
-first-parts x y z buffer a b c long end whole room left is =
+    → put_first (x ++ y ++ z) buffer ≡ record { answer = Written c; buffer = take b left ++ (z ++ drop (c - b) (drop b left)) }
+unfolding put_first
+first_parts x y z buffer a b c long end whole room left is =
     let both : length (x ++ y) ≡ b = omega (arith, length-append x y) in
     let size : length (x ++ y ++ z) ≡ c = omega (arith, length-append (x ++ y) z) in
-    rw (size, le-ltb (length buffer) c room, is ∙ part-more x y buffer a b long end, part-more (x ++ y) z buffer b c both whole)
+    rw (size, le-ltb (length buffer) c room, is ∙ part_more x y buffer a b long end, part_more (x ++ y) z buffer b c both whole)

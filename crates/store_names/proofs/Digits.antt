@@ -13,21 +13,21 @@ use lib.ListN.{length, length-append}
 use borrow.Author.Tests.{le-leb, lt-leb, leb-true}
 use Rattle.store_names.specs.declared.Decimal.{Decimal}
 use Rattle.store_names.specs.declared.Decimal.TheVariants.{Number, Bad}
-use Rattle.store_names.specs.Decimal.{largest, isDigit, allDigits, valueFrom, digits, decimalFrom}
+use Rattle.store_names.specs.Decimal.{largest, is_digit, all_digits, value_from, digits, decimal_from}
 
 -- ---- one digit
 
-pub digit : (b : ℕ) → 48 ≤ b → b ≤ 57 → isDigit b ≡ true
+pub digit : (b : ℕ) → 48 ≤ b → b ≤ 57 → is_digit b ≡ true
 digit b low high = rw (le-leb 48 b low, le-leb b 57 high)
 
-pub below-digits : (b : ℕ) → b < 48 → isDigit b ≡ false
+pub below-digits : (b : ℕ) → b < 48 → is_digit b ≡ false
 below-digits b h = rw (lt-leb 48 b h)
 
-pub above-digits : (b : ℕ) → 57 < b → isDigit b ≡ false
-above-digits b h = rw (lt-leb b 57 h, and-false (leb 48 b))
+pub above_digits : (b : ℕ) → 57 < b → is_digit b ≡ false
+above_digits b h = rw (lt-leb b 57 h, and-false (leb 48 b))
 
-digit-bounds : (b : ℕ) → isDigit b ≡ true → (48 ≤ b) × (b ≤ 57)
-digit-bounds b h =
+digit_bounds : (b : ℕ) → is_digit b ≡ true → (48 ≤ b) × (b ≤ 57)
+digit_bounds b h =
     let t = (and-eq-true_iff (leb 48 b) (leb b 57)).0 h in
     (leb-true 48 b t.0, leb-true b 57 t.1)
 
@@ -46,44 +46,44 @@ digits_last (suc k) n h =
     let e : suc k - 1 ≡ k = omega arith in
     rw e refl
 
-all_append : (l m : List ℕ) → allDigits (l ++ m) ≡ allDigits l && allDigits m
-unfolding allDigits
+all_append : (l m : List ℕ) → all_digits (l ++ m) ≡ all_digits l && all_digits m
+unfolding all_digits
 all_append [] m = refl
-all_append (b ∷ l) m = rw (all_append l m) (sym (and_assoc (isDigit b) (allDigits l) (allDigits m)))
+all_append (b ∷ l) m = rw (all_append l m) (sym (and_assoc (is_digit b) (all_digits l) (all_digits m)))
 
-all_digits : (k n : ℕ) → allDigits (digits k n) ≡ true
-unfolding digits allDigits
-all_digits zero n = refl
-all_digits (suc k) n = rw (all_append, all_digits k (n / 10), digit (48 + n % 10) (omega arith) (omega arith))
+all_digits_lem : (k n : ℕ) → all_digits (digits k n) ≡ true
+unfolding digits all_digits
+all_digits_lem zero n = refl
+all_digits_lem (suc k) n = rw (all_append, all_digits_lem k (n / 10), digit (48 + n % 10) (omega arith) (omega arith))
 
 -- ---- reading undoes writing
 
-value-append : (n : ℕ) (l m : List ℕ) → valueFrom n (l ++ m) ≡ valueFrom (valueFrom n l) m
-unfolding valueFrom
+value-append : (n : ℕ) (l m : List ℕ) → value_from n (l ++ m) ≡ value_from (value_from n l) m
+unfolding value_from
 value-append n [] m = refl
 value-append n (b ∷ l) m = value-append (n * 10 + (b - 48)) l m
 
 -- a number below ten to the k is what its k digits say
-value-digits : (k n : ℕ) → n < 10 ^ k → valueFrom 0 (digits k n) ≡ n
-unfolding digits valueFrom
+value-digits : (k n : ℕ) → n < 10 ^ k → value_from 0 (digits k n) ≡ n
+unfolding digits value_from
 value-digits zero n h = omega arith
 value-digits (suc k) n h =
     let less : n / 10 < 10 ^ k = (div-lt_iff_lt-mul (lit< tt)).1 (rw pow-suc at h) in
     rw (value-append, value-digits k (n / 10) less) (omega arith)
 
-pub decimal-digits : (k n : ℕ) → n < 10 ^ k → n ≤ largest → decimalFrom 0 (digits k n) ≡ Number n
-unfolding decimalFrom
-decimal-digits k n fits taken = rw (all_digits, value-digits k n fits, le-leb n largest taken)
+pub decimal-digits : (k n : ℕ) → n < 10 ^ k → n ≤ largest → decimal_from 0 (digits k n) ≡ Number n
+unfolding decimal_from
+decimal-digits k n fits taken = rw (all_digits_lem, value-digits k n fits, le-leb n largest taken)
 
 -- ---- and writing undoes reading
 
 -- the digits behind others that said n
-digits_value : (k n : ℕ) (l : List ℕ) → allDigits l ≡ true → digits (k + length l) (valueFrom n l) ≡ digits k n ++ l
-unfolding digits valueFrom allDigits
+digits_value : (k n : ℕ) (l : List ℕ) → all_digits l ≡ true → digits (k + length l) (value_from n l) ≡ digits k n ++ l
+unfolding digits value_from all_digits
 digits_value k n [] h = rw (add-zero, append-nil)
 digits_value k n (b ∷ l) h =
-    let t = (and-eq-true_iff (isDigit b) (allDigits l)).0 h in
-    let bounds = digit-bounds b t.0 in
+    let t = (and-eq-true_iff (is_digit b) (all_digits l)).0 h in
+    let bounds = digit_bounds b t.0 in
     let less : b - 48 < 10 = omega arith in
     let same : 48 + (b - 48) ≡ b = omega arith in
     let turn : k + length (b ∷ l) ≡ suc k + length l = omega arith in
@@ -94,33 +94,33 @@ pub read_behind : (t : Bool) (d : Decimal) (n : ℕ) → cond t d Bad ≡ Number
 read_behind true d n h = (refl, h)
 read_behind false d n h = ((cc), (cc))
 
-pub digits_decimal : (l : List ℕ) (n : ℕ) → decimalFrom 0 l ≡ Number n → (n ≤ largest) × (digits (length l) n ≡ l)
-unfolding decimalFrom digits
+pub digits_decimal : (l : List ℕ) (n : ℕ) → decimal_from 0 l ≡ Number n → (n ≤ largest) × (digits (length l) n ≡ l)
+unfolding decimal_from digits
 digits_decimal l n h =
-    let r = read_behind (allDigits l && leb (valueFrom 0 l) largest) (Number (valueFrom 0 l)) n h in
-    let t = (and-eq-true_iff (allDigits l) (leb (valueFrom 0 l) largest)).0 r.0 in
-    let value : valueFrom 0 l ≡ n = cc r.1 in
-    (rw value at (leb-true (valueFrom 0 l) largest t.1), rw (zero-add, value) at (digits_value 0 0 l t.0))
+    let r = read_behind (all_digits l && leb (value_from 0 l) largest) (Number (value_from 0 l)) n h in
+    let t = (and-eq-true_iff (all_digits l) (leb (value_from 0 l) largest)).0 r.0 in
+    let value : value_from 0 l ≡ n = cc r.1 in
+    (rw value at (leb-true (value_from 0 l) largest t.1), rw (zero-add, value) at (digits_value 0 0 l t.0))
 
 -- ---- the reader's cases
 
-pub decimal_digit : (n b : ℕ) (l : List ℕ) → isDigit b ≡ true → decimalFrom n (b ∷ l) ≡ decimalFrom (n * 10 + (b - 48)) l
-unfolding decimalFrom allDigits valueFrom
+pub decimal_digit : (n b : ℕ) (l : List ℕ) → is_digit b ≡ true → decimal_from n (b ∷ l) ≡ decimal_from (n * 10 + (b - 48)) l
+unfolding decimal_from all_digits value_from
 decimal_digit n b l h = rw h
 
-pub decimal-other : (n b : ℕ) (l : List ℕ) → isDigit b ≡ false → decimalFrom n (b ∷ l) ≡ Bad
-unfolding decimalFrom allDigits
+pub decimal-other : (n b : ℕ) (l : List ℕ) → is_digit b ≡ false → decimal_from n (b ∷ l) ≡ Bad
+unfolding decimal_from all_digits
 decimal-other n b l h = rw h
 
-value_grows : (n : ℕ) (l : List ℕ) → n ≤ valueFrom n l
-unfolding valueFrom
+value_grows : (n : ℕ) (l : List ℕ) → n ≤ value_from n l
+unfolding value_from
 value_grows n [] = omega arith
 value_grows n (b ∷ l) = omega (arith, value_grows (n * 10 + (b - 48)) l)
 
-pub decimal-large : (n : ℕ) (l : List ℕ) → largest < n → decimalFrom n l ≡ Bad
-unfolding decimalFrom
-decimal-large n l h = rw (lt-leb (valueFrom n l) largest (omega (arith, value_grows n l)), and-false (allDigits l))
+pub decimal_large : (n : ℕ) (l : List ℕ) → largest < n → decimal_from n l ≡ Bad
+unfolding decimal_from
+decimal_large n l h = rw (lt-leb (value_from n l) largest (omega (arith, value_grows n l)), and-false (all_digits l))
 
-pub decimal-end : (n : ℕ) → n ≤ largest → decimalFrom n [] ≡ Number n
-unfolding decimalFrom allDigits valueFrom
-decimal-end n h = rw (le-leb n largest h)
+pub decimal_end : (n : ℕ) → n ≤ largest → decimal_from n [] ≡ Number n
+unfolding decimal_from all_digits value_from
+decimal_end n h = rw (le-leb n largest h)

@@ -9,17 +9,17 @@ abbrev pub largest : ℕ
 largest = 18446744073709551615
 
 -- 0 is the byte 48, 9 the byte 57
-abbrev pub isDigit : ℕ → Bool
-isDigit b = leb 48 b && leb b 57
+abbrev pub is_digit : ℕ → Bool
+is_digit b = leb 48 b && leb b 57
 
-unfoldable pub allDigits : List ℕ → Bool
-allDigits [] = true
-allDigits (b ∷ bs) = isDigit b && allDigits bs
+unfoldable pub all_digits : List ℕ → Bool
+all_digits [] = true
+all_digits (b ∷ bs) = is_digit b && all_digits bs
 
 -- the number that the digits say behind others that said n
-unfoldable pub valueFrom : ℕ → List ℕ → ℕ
-valueFrom n [] = n
-valueFrom n (b ∷ bs) = valueFrom (n * 10 + (b - 48)) bs
+unfoldable pub value_from : ℕ → List ℕ → ℕ
+value_from n [] = n
+value_from n (b ∷ bs) = value_from (n * 10 + (b - 48)) bs
 
 -- the last k digits of n, zeros in front
 unfoldable pub digits : ℕ → ℕ → List ℕ
@@ -27,8 +27,8 @@ digits zero n = []
 digits (suc k) n = digits k (n / 10) ++ (48 + n % 10) ∷ []
 
 -- the number that the bytes say behind digits that said n: all of them are digits, and it isn't above the largest
-unfoldable pub decimalFrom : ℕ → List ℕ → Decimal
-decimalFrom n bs = cond (allDigits bs && leb (valueFrom n bs) largest) (Number (valueFrom n bs)) Bad
+unfoldable pub decimal_from : ℕ → List ℕ → Decimal
+decimal_from n bs = cond (all_digits bs && leb (value_from n bs) largest) (Number (value_from n bs)) Bad
 
 abbrev pub decimal : List ℕ → Decimal
-decimal bs = decimalFrom 0 bs
+decimal bs = decimal_from 0 bs

@@ -7,8 +7,8 @@ use Rattle.store_names.specs.Names.{encode, is_taken, decode}
 
 pub record RoundTrip : Type 0 where
   -- reading what was written gives the name
-  pub readsWritten : (v : Name) → is_taken v ≡ true → decode (encode v) ≡ IsName v
+  pub reads_written : (v : Name) → is_taken v ≡ true → decode (encode v) ≡ IsName v
   -- what was read is a name that a writer takes, and writing it gives the bytes
-  pub writesRead : (bytes : List ℕ) (v : Name) → decode bytes ≡ IsName v → (is_taken v ≡ true) × (encode v ≡ bytes)
+  pub writes_read : (bytes : List ℕ) (v : Name) → decode bytes ≡ IsName v → (is_taken v ≡ true) × (encode v ≡ bytes)
   -- bytes that no name is written as are refused
   pub refuses : (bytes : List ℕ) → ((v : Name) → is_taken v ≡ true → encode v ≡ bytes → ⊥) → decode bytes ≡ NotName

@@ -3,7 +3,7 @@
 // undoing the other.
 ghost use Rattle.std.specs.Prelude.{◌≡◌, ◌++◌, length};
 ghost use Rattle.store_names.specs.Decimal.{decimal, digits};
-ghost use Rattle.store_names.specs.Names.{nameDigits, sameBytes, numberBefore, number_in, decode, putFirst, writing};
+ghost use Rattle.store_names.specs.Names.{name_digits, same_bytes, number_before, number_in, decode, put_first, writing};
 
 // How many digits a name has.
 const DIGITS: usize = 20;
@@ -75,7 +75,7 @@ fn read_digits(s: &[u8]) -> Decimal
 
 // Whether two slices hold the same bytes.
 fn same_bytes(a: &[u8], b: &[u8]) -> bool
-    ensures { result ≡ sameBytes a.now b.now }
+    ensures { result ≡ same_bytes a.now b.now }
 {
     if a.len() != b.len() {
         return false;
@@ -92,7 +92,7 @@ fn same_bytes(a: &[u8], b: &[u8]) -> bool
 
 // The number of digits with `suffix` behind them.
 fn read_before(name: &[u8], suffix: &[u8]) -> Decimal
-    ensures { result ≡ numberBefore suffix.now name.now }
+    ensures { result ≡ number_before suffix.now name.now }
 {
     if name.len() < DIGITS {
         return Decimal::Bad;
@@ -161,7 +161,7 @@ fn copy_bytes(from: &[u8], to: &mut [u8])
 
 // Writes the folder, the digits of n and the suffix at the start of `out`, where there is room.
 fn put_in(folder: &[u8], suffix: &[u8], n: u64, out: &mut [u8]) -> NameWrite
-    ensures { putFirst (folder.now ++ digits nameDigits n ++ suffix.now) out.old ≡ record { answer = result; buffer = out.new } }
+    ensures { put_first (folder.now ++ digits name_digits n ++ suffix.now) out.old ≡ record { answer = result; buffer = out.new } }
 {
     let before = folder.len() + DIGITS;
     if out.len() < before {

@@ -1,9 +1,9 @@
 // Verdict records (document 01, "A verdict is tag 40 .."): read and written, each undoing the other.
 ghost use Rattle.std.specs.Prelude.{◌≡◌, ◌||◌, ◌+◌, ◌*◌, ◌≤◌, eqb, length};
-ghost use Rattle.records.specs.Format.{inPlaces};
-ghost use Rattle.records.specs.Found.{foundBy};
-ghost use Rattle.verdicts.specs.Verdicts.{verdictFields, risingList, verdictFormed, shape_of, codeAlone, answerFrom, isAlone, replyOfWalk, NoVerdict, decodeVerdict, verdictRead};
-ghost use Rattle.verdicts.specs.Verdicts.{verdictWriting};
+ghost use Rattle.records.specs.Format.{in_places};
+ghost use Rattle.records.specs.Found.{found_by};
+ghost use Rattle.verdicts.specs.Verdicts.{verdict_fields, rising_list, verdict_formed, shape_of, code_alone, answer_from, is_alone, reply_of_walk, NoVerdict, decode_verdict, verdict_read};
+ghost use Rattle.verdicts.specs.Verdicts.{verdict_writing};
 
 use records::{
     FIELDS, Fields, Reading, Walk, Write, code, epoch, is_whole, list, manifest, object, one,
@@ -28,7 +28,7 @@ const VERDICT_TAG: u8 = 0x40;
 const LAST_ROW: u8 = 17;
 
 fn verdict_fields(answer: Answer) -> Fields
-    ensures { result ≡ inPlaces (verdictFields answer) }
+    ensures { result ≡ in_places (verdict_fields answer) }
 {
     match answer {
         Answer::Refused(n) => one(code(n)),
@@ -42,7 +42,7 @@ fn verdict_fields(answer: Answer) -> Fields
 
 // Whether the numbers rise strictly from above 0, and are not too many.
 fn is_rising_list(most: usize, numbers: &[u64]) -> bool
-    ensures { result ≡ risingList most numbers.now }
+    ensures { result ≡ rising_list most numbers.now }
 {
     if !rules::is_rising(numbers) {
         return false;
@@ -52,7 +52,7 @@ fn is_rising_list(most: usize, numbers: &[u64]) -> bool
 
 // Whether an answer with this list beside it is well formed.
 fn is_formed(answer: Answer, numbers: &[u64]) -> bool
-    ensures { result ≡ verdictFormed answer numbers.now }
+    ensures { result ≡ verdict_formed answer numbers.now }
 {
     match answer {
         Answer::Refused(n) => {
@@ -92,7 +92,7 @@ fn shape_of(bytes: &[u8]) -> Answer
 }
 
 fn code_alone(n: u64) -> Answer
-    ensures { result ≡ codeAlone n }
+    ensures { result ≡ code_alone n }
 {
     if n == 0 {
         return Answer::Done;
@@ -102,7 +102,7 @@ fn code_alone(n: u64) -> Answer
 
 // The answer of that shape with the numbers of its fields, the code's first.
 fn answer_from(shape: Answer, v: [u64; FIELDS]) -> Answer
-    ensures { result ≡ answerFrom shape v }
+    ensures { result ≡ answer_from shape v }
 {
     let a = v[0];
     let b = v[1];
@@ -119,7 +119,7 @@ fn answer_from(shape: Answer, v: [u64; FIELDS]) -> Answer
 
 // Of a shape other than the code's alone the code must be 0.
 fn code_fits(shape: Answer, n: u64) -> bool
-    ensures { result ≡ (isAlone shape || eqb n 0) }
+    ensures { result ≡ (is_alone shape || eqb n 0) }
 {
     match shape {
         Answer::Refused(_) => true,
@@ -132,7 +132,7 @@ fn code_fits(shape: Answer, n: u64) -> bool
 }
 
 fn malformed() -> VerdictRead
-    ensures { result ≡ verdictRead NoVerdict }
+    ensures { result ≡ verdict_read NoVerdict }
 {
     let objects = [0u64; rules::PLACES];
     let list = ObjectList { count: 0, objects };
@@ -149,7 +149,7 @@ fn malformed() -> VerdictRead
 // The verdict of a walk over a record's value.
 fn verdict_of(shape: Answer, value: &[u8], w: Walk) -> VerdictRead
     requires { w.list + 8 * w.count ≤ length value.now }
-    ensures { result ≡ verdictRead (replyOfWalk shape (foundBy w value.now)) }
+    ensures { result ≡ verdict_read (reply_of_walk shape (found_by w value.now)) }
 {
     let count = w.count;
     if !w.whole {
@@ -179,7 +179,7 @@ fn verdict_of(shape: Answer, value: &[u8], w: Walk) -> VerdictRead
 
 // Takes all the bytes lent as one record.
 pub fn read_verdict(bytes: &[u8]) -> VerdictRead
-    ensures { result ≡ verdictRead (decodeVerdict bytes.now) }
+    ensures { result ≡ verdict_read (decode_verdict bytes.now) }
 {
     if !is_whole(bytes) {
         return malformed();
@@ -196,7 +196,7 @@ pub fn read_verdict(bytes: &[u8]) -> VerdictRead
 
 // Writes a verdict's record at the start of `out`; the bytes beyond it stay. Where it refuses nothing is written.
 pub fn write_verdict(verdict: Verdict, out: &mut [u8]) -> Write
-    ensures { verdictWriting verdict out.old ≡ record { answer = result; buffer = out.new } }
+    ensures { verdict_writing verdict out.old ≡ record { answer = result; buffer = out.new } }
 {
     let list = verdict.list;
     let count = list.count;

@@ -10,5 +10,5 @@ use Rattle.bucket.proofs.list_read.Tie as tie
 slice-aggregate-read-listing : tie.Need-slice-aggregate-read-listing
 slice-aggregate-read-listing c = sym (length-take-le _ _ (omega arith))
 
-pub list-read-spec : {M : Type 1} → statement M
-list-read-spec = tie.close (tie.spec slice-aggregate-read-listing (λ c κs. tt) (λ c κs. tt) (λ c. search rules) (λ c κs. tt) (λ c. tt) (λ c. tt))
+pub list_read_spec : {M : Type 1} → statement M
+list_read_spec = tie.close (tie.spec slice-aggregate-read-listing (λ c κs. tt) (λ c κs. tt) (λ c. search rules) (λ c κs. tt) (λ c. tt) (λ c. tt))

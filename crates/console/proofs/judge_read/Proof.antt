@@ -10,5 +10,5 @@ use Rattle.console.proofs.judge_read.Tie as tie
 slice-aggregate-judge-trace : tie.Need-slice-aggregate-judge-trace
 slice-aggregate-judge-trace c = sym (length-take-le _ _ (omega arith))
 
-pub judge-read-spec : {M : Type 1} → statement M
-judge-read-spec = tie.close (tie.spec slice-aggregate-judge-trace (λ c κs. tt) (λ c. search rules) (λ c κs. tt) (λ c. tt) (λ c. tt))
+pub judge_read_spec : {M : Type 1} → statement M
+judge_read_spec = tie.close (tie.spec slice-aggregate-judge-trace (λ c κs. tt) (λ c. search rules) (λ c κs. tt) (λ c. tt) (λ c. tt))

@@ -4,7 +4,7 @@ use mathlib.Core.Path.{refl, sym, ◌∙◌}
 use Prim.Native.Nat.{◌-◌}
 use native.Mathlib.Omega.{arith}
 use lib.ListN.{length}
-use Rattle.console.proofs.Turns.{Going, Turn, stops, some_read, read-within, goes-again}
+use Rattle.console.proofs.Turns.{Going, Turn, stops, some_read, read_within_lem, goes_again}
 use Rattle.console.proofs.say_codes.Statement.{statement}
 use Rattle.console.proofs.say_codes.Tie as tie
 
@@ -36,21 +36,21 @@ returns : tie.Need-returns invariant-loop decreases-loop
 returns c = stops (turn c.before.before) c.match.keys2
 
 add_read : tie.Need-overflow-add-read invariant-loop decreases-loop
-add_read c = omega (arith, read-within (turn c.before.before.before.before.before) _ _ c.before.before.front.given.1)
+add_read c = omega (arith, read_within_lem (turn c.before.before.before.before.before) _ _ c.before.before.front.given.1)
 
 loop-less : tie.Need-loop-smaller invariant-loop decreases-loop
 loop-less c =
     let t = turn c.before.before.before.before.before.before.before.before in
     let at = c.before.before.before.before.before.front.given.1 in
-    omega (arith, some_read t _ _ at, read-within t _ _ at)
+    omega (arith, some_read t _ _ at, read_within_lem t _ _ at)
 
 loop-again : tie.Need-loop-preserved invariant-loop decreases-loop
 loop-again c =
     let s = c.before.before.before.before.before.before.before.before in
-    goes-again (turn s) _ _ c.before.before.before.before.before.front.given.1 (s.before.before.before.loop.invariant.room ∙ sym s.step-record.auto.1.1.0)
+    goes_again (turn s) _ _ c.before.before.before.before.before.front.given.1 (s.before.before.before.loop.invariant.room ∙ sym s.step-record.auto.1.1.0)
 
-pub say-codes-spec : {M : Type 1} → statement M
-say-codes-spec =
+pub say_codes_spec : {M : Type 1} → statement M
+say_codes_spec =
     tie.close
     (tie.spec
     invariant-loop

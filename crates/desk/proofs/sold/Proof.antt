@@ -29,5 +29,5 @@ returns-4 c =
     rw (eq-eqb a.found.code 0 c.before.before.before.before.before.before.before.if1.false, eq-eqb a.sheet.object a.found.object c.before.before.before.before.if2.false, eq-eqb a.sheet.currency a.currency c.before.before.if3.false)
     (ap (λ (n : ℕ). record { sale = Charged n; ledger = a.found.ledger }) c.before.charge.ensures)
 
-pub sold-spec : {M : Type 1} → statement M
-sold-spec = tie.close (tie.spec (λ c κs. tt) returns (λ c κs. tt) returns-2 (λ c κs. tt) returns-3 (λ c κs. search rules) returns-4)
+pub sold_spec : {M : Type 1} → statement M
+sold_spec = tie.close (tie.spec (λ c κs. tt) returns (λ c κs. tt) returns-2 (λ c κs. tt) returns-3 (λ c κs. search rules) returns-4)

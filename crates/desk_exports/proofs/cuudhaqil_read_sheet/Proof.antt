@@ -3,26 +3,26 @@ use mathlib.Core.Path.{sym, ◌∙◌}
 use lib.ListN.{length}
 use borrow.Author.Rules.{rules}
 use borrow.Author.Tests.{lt-ltb, le-ltb}
-use Rattle.desk_exports.specs.Calls.{readSheet}
+use Rattle.desk_exports.specs.Calls.{read_sheet}
 use Rattle.desk_exports.proofs.cuudhaqil_read_sheet.Statement.{statement}
 use Rattle.desk_exports.proofs.cuudhaqil_read_sheet.Tie as tie
 
 returns : tie.Need-returns
-unfolding readSheet
+unfolding read_sheet
 returns c = rw (lt-ltb (length c.before.before.before.args.numbers.now) 4 c.if1.true)
 
 returns-2 : tie.Need-returns-2
-unfolding readSheet
+unfolding read_sheet
 returns-2 c = rw (le-ltb (length c.before.before.before.before.before.before.args.numbers.now) 4 c.before.before.before.if1.false, sym c.before.before.read-sheet.ensures ∙ c.enum_told.given.1)
 
 returns-3 : tie.Need-returns-3
-unfolding readSheet
+unfolding read_sheet
 returns-3 c =
     rw (le-ltb (length c.before.before.before.before.before.before.before.before.before.before.before.before.before.args.numbers.now) 4 c.before.before.before.before.before.before.before.before.before.before.if1.false, sym c.before.before.before.before.before.before.before.before.before.read-sheet.ensures ∙ c.before.before.before.before.before.before.before.read.given.1)
     (rw c.before.before.fill.ensures)
 
-pub cuudhaqil-read-sheet-spec : {M : Type 1} → statement M
-cuudhaqil-read-sheet-spec =
+pub cuudhaqil_read_sheet_spec : {M : Type 1} → statement M
+cuudhaqil_read_sheet_spec =
     tie.close
     (tie.spec
     returns

@@ -10,5 +10,5 @@ returns c = rw (lt-ltb 65535 c.before.args.c (omega (arith, c.if1.true)))
 returns-2 : tie.Need-returns-2
 returns-2 c = rw (le-ltb 65535 c.before.args.c (omega (arith, c.if1.false)))
 
-pub narrow-currency-spec : {M : Type 1} → statement M
-narrow-currency-spec = tie.close (tie.spec returns (λ c. omega arith) returns-2)
+pub narrow_currency_spec : {M : Type 1} → statement M
+narrow_currency_spec = tie.close (tie.spec returns (λ c. omega arith) returns-2)

@@ -6,23 +6,23 @@ use native.Mathlib.Numerals.{add-one}
 use native.Mathlib.Omega.{arith}
 use lib.ListN.{length, set, length-set}
 use Rattle.desk.specs.declared.Entry.{Entry}
-use Rattle.desk.specs.Card.{rowLimit}
-use Rattle.desk_exports.specs.Calls.{blank, rowFrom}
+use Rattle.desk.specs.Card.{row_limit}
+use Rattle.desk_exports.specs.Calls.{blank, row_from}
 use Rattle.desk_exports.proofs.row_from.Statement.{statement}
 use Rattle.desk_exports.proofs.row_from.Tie as tie
 
 abbrev invariant-loop : tie.invariant-loop
-invariant-loop card count row₀ i₀ row i = (i ≤ count) × (length row ≡ rowLimit) × (row ≡ rowFrom i card)
+invariant-loop card count row₀ i₀ row i = (i ≤ count) × (length row ≡ row_limit) × (row ≡ row_from i card)
 
 abbrev decreases-loop : tie.decreases-loop
 decreases-loop card count row₀ i₀ row i = count - i
 
 loop-holds : tie.Need-loop-init invariant-loop decreases-loop
-unfolding rowFrom
+unfolding row_from
 loop-holds c = (omega arith, refl, refl)
 
 loop-again : tie.Need-loop-preserved invariant-loop decreases-loop
-unfolding rowFrom
+unfolding row_from
 loop-again c =
     let l = c.before.before.before.loop in (
       omega arith,
@@ -36,8 +36,8 @@ returns c =
     let all : l.i ≡ c.before.before.before.args.count = omega arith in
     l.invariant.2 ∙ rw all
 
-pub row-from-spec : {M : Type 1} → statement M
-row-from-spec =
+pub row_from_spec : {M : Type 1} → statement M
+row_from_spec =
     tie.close
     (tie.spec
     invariant-loop

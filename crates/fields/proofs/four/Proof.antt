@@ -3,7 +3,7 @@
 use mathlib.Core.Path.{sym}
 use Prim.Native.Nat.{◌+◌}
 use native.Mathlib.Omega.{arith}
-use Rattle.fields.proofs.Bytes.{value-four}
+use Rattle.fields.proofs.Bytes.{value_four}
 use borrow.Author.Rules.{rules}
 use Rattle.fields.proofs.four.Statement.{statement}
 use Rattle.fields.proofs.four.Tie as tie
@@ -39,10 +39,10 @@ add-result-6 : tie.Need-overflow-add-result-6
 add-result-6 c = omega (arith, c.before.before.before.shared-slice-known.given c.before.before.before.before.args.at, c.before.before.before.shared-slice-known.given (c.before.before.before.before.args.at + 1), c.before.before.before.shared-slice-known.given (c.before.before.before.before.args.at + 2), c.before.before.before.shared-slice-known.given (c.before.before.before.before.args.at + 3))
 
 returns : tie.Need-returns
-returns c = sym (value-four c.before.before.before.before.args.at c.before.before.before.before.args.s.now (omega arith))
+returns c = sym (value_four c.before.before.before.before.args.at c.before.before.before.before.args.s.now (omega arith))
 
-pub four-spec : {M : Type 1} → statement M
-four-spec =
+pub four_spec : {M : Type 1} → statement M
+four_spec =
     tie.close
     (tie.spec
     (λ c. search rules)

@@ -6,8 +6,8 @@ use Prim.Native.Nat.{ℕ, ◌-◌, ◌≤◌}
 use native.Mathlib.Omega.{arith}
 use lib.ListN.{length, get_or, take}
 use lib.Seq.{take_all}
-use Rattle.fields.specs.Bytes.{valueFrom, value_of, kept64}
-use Rattle.fields.proofs.Bytes.{kept_byte, value-more, value-one}
+use Rattle.fields.specs.Bytes.{value_from, value_of, kept64}
+use Rattle.fields.proofs.Bytes.{kept_byte, value_more, value-one}
 use borrow.Author.Rules.{rules}
 use Rattle.fields.proofs.number.Statement.{statement}
 use Rattle.fields.proofs.number.Tie as tie
@@ -31,7 +31,7 @@ returns-3 : tie.Need-returns-3 invariant-loop decreases-loop
 returns-3 c = omega (arith, c.shared-slice-known2.given 0, value-one 0 c.before.before.before.before.before.args.s.now (omega arith), ap value_of (take_all 1 c.before.before.before.before.before.args.s.now (omega arith)))
 
 loop-holds : tie.Need-loop-init invariant-loop decreases-loop
-unfolding valueFrom
+unfolding value_from
 loop-holds c = (omega arith, refl)
 
 cast-n : tie.Need-overflow-cast-n invariant-loop decreases-loop
@@ -45,7 +45,7 @@ loop-again c =
     let l = c.before.before.loop in
     let s = c.before.before.before.before.before.before.before.args.s.now in (
       omega arith,
-      rw (value-more s l.i (omega arith), l.invariant.1) (kept_byte (value_of (take l.i s)) (get_or s l.i 0) (omega (arith, c.shared-slice-known3.given l.i))),
+      rw (value_more s l.i (omega arith), l.invariant.1) (kept_byte (value_of (take l.i s)) (get_or s l.i 0) (omega (arith, c.shared-slice-known3.given l.i))),
     )
 
 returns-4 : tie.Need-returns-4 invariant-loop decreases-loop
@@ -53,8 +53,8 @@ returns-4 c =
     let l = c.before.loop in
     l.invariant.1 ∙ ap (λ (bs : List ℕ). kept64 (value_of bs)) (take_all l.i c.before.before.before.before.before.before.args.s.now (omega arith))
 
-pub number-spec : {M : Type 1} → statement M
-number-spec =
+pub number_spec : {M : Type 1} → statement M
+number_spec =
     tie.close
     (tie.spec
     invariant-loop

@@ -3,7 +3,7 @@
 use mathlib.Core.Path.{sym}
 use Prim.Native.Nat.{◌+◌}
 use native.Mathlib.Omega.{arith}
-use Rattle.fields.proofs.Bytes.{value-two}
+use Rattle.fields.proofs.Bytes.{value_two}
 use borrow.Author.Rules.{rules}
 use Rattle.fields.proofs.pair.Statement.{statement}
 use Rattle.fields.proofs.pair.Tie as tie
@@ -21,7 +21,7 @@ add-result-2 : tie.Need-overflow-add-result-2
 add-result-2 c = omega (arith, c.before.shared-slice-known.given c.before.before.args.at, c.before.shared-slice-known.given (c.before.before.args.at + 1))
 
 returns : tie.Need-returns
-returns c = (sym (value-two c.before.before.args.at c.before.before.args.s.now (omega arith)), omega (arith, c.before.shared-slice-known.given c.before.before.args.at, c.before.shared-slice-known.given (c.before.before.args.at + 1)))
+returns c = (sym (value_two c.before.before.args.at c.before.before.args.s.now (omega arith)), omega (arith, c.before.shared-slice-known.given c.before.before.args.at, c.before.shared-slice-known.given (c.before.before.args.at + 1)))
 
 pub pair_spec : {M : Type 1} → statement M
 pair_spec =

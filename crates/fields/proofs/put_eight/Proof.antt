@@ -3,7 +3,7 @@
 use native.Mathlib.Omega.{arith}
 use lib.ListN.{length-set}
 use Rattle.fields.specs.Bytes.{be}
-use Rattle.fields.proofs.Bytes.{eight-set}
+use Rattle.fields.proofs.Bytes.{eight_set}
 use borrow.Author.Rules.{rules}
 use Rattle.fields.proofs.put_eight.Statement.{statement}
 use Rattle.fields.proofs.put_eight.Tie as tie
@@ -25,10 +25,10 @@ same_length c = simp length-set
 
 returns : tie.Need-returns
 unfolding be
-returns c = eight-set c.args.out.now _ _ _ _ _ _ _ _ c.requires
+returns c = eight_set c.args.out.now _ _ _ _ _ _ _ _ c.requires
 
-pub put-eight-spec : {M : Type 1} → statement M
-put-eight-spec =
+pub put_eight_spec : {M : Type 1} → statement M
+put_eight_spec =
     tie.close
     (tie.spec
     (λ c. search rules)

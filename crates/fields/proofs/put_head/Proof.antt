@@ -16,8 +16,8 @@ same_length c = simp length-set
 returns : tie.Need-returns
 returns c = over-head c.args.tag c.args.n c.args.out.now c.requires
 
-pub put-head-spec : {M : Type 1} → statement M
-put-head-spec =
+pub put_head_spec : {M : Type 1} → statement M
+put_head_spec =
     tie.close
     (tie.spec
     (λ c. search rules)

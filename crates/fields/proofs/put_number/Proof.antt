@@ -42,8 +42,8 @@ returns-2 c =
     let none : c.before.loop.i ≡ 0 = omega arith in
     rw none at c.before.loop.invariant.2
 
-pub put-number-spec : {M : Type 1} → statement M
-put-number-spec =
+pub put_number_spec : {M : Type 1} → statement M
+put_number_spec =
     tie.close
     (tie.spec
     invariant-loop

@@ -9,7 +9,7 @@ use lib.Seq.{take_all, length-take-le}
 use borrow.Author.Rules.{rules}
 use borrow.Rule.Slice.PartMut.{same_len_mid, mid_len, post_of}
 use Rattle.fields.specs.Bytes.{be, words}
-use Rattle.fields.proofs.Bytes.{length-be, take_next, words-from, words-end}
+use Rattle.fields.proofs.Bytes.{length-be, take_next, words-from, words_end}
 use Rattle.fields.proofs.put_words.Statement.{statement}
 use Rattle.fields.proofs.put_words.Tie as tie
 
@@ -76,10 +76,10 @@ same_length c = c.before.loop.invariant.1
 returns : tie.Need-returns invariant-loop decreases-loop
 returns c =
     let l = c.before.loop in
-    rw (words-end c.before.before.before.before.args.list.now l.i (omega arith), append-nil, take_all (8 * l.i) l.out (omega arith)) at l.invariant.2
+    rw (words_end c.before.before.before.before.args.list.now l.i (omega arith), append-nil, take_all (8 * l.i) l.out (omega arith)) at l.invariant.2
 
-pub put-words-spec : {M : Type 1} → statement M
-put-words-spec =
+pub put_words_spec : {M : Type 1} → statement M
+put_words_spec =
     tie.close
     (tie.spec
     invariant-loop

@@ -20,8 +20,8 @@ returns-3 c = sym (head-torn c.before.before.before.before.before.before.args.ta
 returns-4 : tie.Need-returns-4
 returns-4 c = ap Holds c.before.pair.ensures.0 ∙ sym (head-holds c.before.before.before.before.before.before.args.tag c.before.before.before.before.before.before.args.s.now (omega arith) (omega (arith, c.before.pair.ensures.0)))
 
-pub read-head-spec : {M : Type 1} → statement M
-read-head-spec =
+pub read_head_spec : {M : Type 1} → statement M
+read_head_spec =
     tie.close
     (tie.spec
     returns

@@ -10,7 +10,7 @@ use lib.ListN.{length, take, drop, set, length-set}
 use lib.Seq.{take-suc-set, take_all, append_snoc}
 use borrow.Author.Rules.{rules}
 use Rattle.fields.specs.Bytes.{words_of}
-use Rattle.fields.proofs.Bytes.{wordsOf-from, wordsOf-end}
+use Rattle.fields.proofs.Bytes.{words_of-from, words_of_end}
 use Rattle.fields.proofs.read_words.Statement.{statement}
 use Rattle.fields.proofs.read_words.Tie as tie
 
@@ -65,7 +65,7 @@ loop-again c =
     let filled : take (l.i + 1) (set l.list l.i x) ≡ take l.i l.list ++ x ∷ [] = rw add-one (take-suc-set l.list l.i x (omega arith)) in (
       simp length-set (omega arith),
       simp length-set l.invariant.1,
-      rw (filled, append_snoc (take l.i l.list) x, rw size at c.number.ensures) (rw (wordsOf-from (length a.list.now) l.i a.s.now (omega arith)) at l.invariant.2),
+      rw (filled, append_snoc (take l.i l.list) x, rw size at c.number.ensures) (rw (words_of-from (length a.list.now) l.i a.s.now (omega arith)) at l.invariant.2),
     )
 
 same_length : tie.Need-same-length invariant-loop decreases-loop
@@ -75,10 +75,10 @@ returns : tie.Need-returns invariant-loop decreases-loop
 returns c =
     let l = c.before.loop in
     let a = c.before.before.before.before.args in
-    rw (wordsOf-end (length a.list.now) l.i (drop (8 * l.i) a.s.now) (omega arith), append-nil, take_all l.i l.list (omega arith)) at l.invariant.2
+    rw (words_of_end (length a.list.now) l.i (drop (8 * l.i) a.s.now) (omega arith), append-nil, take_all l.i l.list (omega arith)) at l.invariant.2
 
-pub read-words-spec : {M : Type 1} → statement M
-read-words-spec =
+pub read_words_spec : {M : Type 1} → statement M
+read_words_spec =
     tie.close
     (tie.spec
     invariant-loop

@@ -13,5 +13,5 @@ returns-2 : tie.Need-returns-2
 unfolding live
 returns-2 c = rw (ne_eqb c.before.args.hold.expiry 0 c.if1.false)
 
-pub is-live-spec : {M : Type 1} → statement M
-is-live-spec = tie.close (tie.spec returns returns-2)
+pub is_live_spec : {M : Type 1} → statement M
+is_live_spec = tie.close (tie.spec returns returns-2)

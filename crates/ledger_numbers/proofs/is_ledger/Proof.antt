@@ -8,19 +8,19 @@ use lib.Seq.{take_all}
 use Rattle.rules.specs.Limits.{limits}
 use Rattle.rules.specs.Lists.{conj}
 use Prim.Native.Nat.{ℕ}
-use Rattle.ledger_numbers.specs.Numbers.{each, objectSize, objectsAt, canBe, isLedger}
+use Rattle.ledger_numbers.specs.Numbers.{each, object_size, objects_at, can_be, is_ledger}
 use borrow.Author.Rules.{rules}
 use Rattle.ledger_numbers.proofs.is_ledger.Statement.{statement}
 use Rattle.ledger_numbers.proofs.is_ledger.Tie as tie
 
 returns : tie.Need-returns
-unfolding isLedger
+unfolding is_ledger
 returns c =
     let v = c.before.before.before.args.v.now in
-    c.places-can-be.ensures ∙ ap (λ (l : List ℕ). conj (each canBe objectSize limits.places l)) (take_all (length v - objectsAt) (drop objectsAt v) (omega (arith, length-drop objectsAt v)))
+    c.places-can-be.ensures ∙ ap (λ (l : List ℕ). conj (each can_be object_size limits.places l)) (take_all (length v - objects_at) (drop objects_at v) (omega (arith, length-drop objects_at v)))
 
-pub is-ledger-spec : {M : Type 1} → statement M
-is-ledger-spec =
+pub is_ledger_spec : {M : Type 1} → statement M
+is_ledger_spec =
     tie.close
     (tie.spec
     (λ c. search rules)

@@ -7,9 +7,9 @@ use native.Mathlib.Omega.{arith}
 use lib.ListN.{length, take, drop, replicate, length-drop}
 use lib.Seq.{take_all, length-take-le}
 use borrow.Author.Rules.{rules}
-use Rattle.rules.specs.Limits.{limits, manifestLimit, wordCount}
+use Rattle.rules.specs.Limits.{limits, manifest_limit, word_count}
 use Rattle.fields.specs.Fields.{over}
-use Rattle.ledger_numbers.specs.Numbers.{objectSize, manifestSize, holdSize, occupancyAt, objectsAt, manifestsAt, holdsAt, each, objectFrom, manifestFrom, holdFrom, ledgerSaid}
+use Rattle.ledger_numbers.specs.Numbers.{object_size, manifest_size, hold_size, occupancy_at, objects_at, manifests_at, holds_at, each, object_from, manifest_from, hold_from, ledger_said}
 use Rattle.ledger_numbers.proofs.Over.{over-all}
 use Rattle.ledger_numbers.proofs.ledger_said.Statement.{statement}
 use Rattle.ledger_numbers.proofs.ledger_said.Tie as tie
@@ -19,23 +19,23 @@ from : (a : ℕ) (v : List ℕ) → take (length v - a) (drop a v) ≡ drop a v
 from a v = take_all (length v - a) (drop a v) (omega (arith, length-drop a v))
 
 returns : tie.Need-returns
-unfolding ledgerSaid
+unfolding ledger_said
 returns c =
     let held = c.before.before in
     let kept = held.before.before.before in
     let placed = kept.before.before.before in
     let filled = placed.before.before.before in
     let v = filled.before.before.before.before.args.v.now in
-    let many : length (take wordCount (drop occupancyAt v)) ≡ wordCount = length-take-le wordCount (drop occupancyAt v) (omega (arith, length-drop occupancyAt v)) in
-    let read : filled.fill.new.1.0 ≡ over (take wordCount (drop occupancyAt v)) (replicate wordCount 0) = filled.fill.ensures in
-    let words = read ∙ over-all (take wordCount (drop occupancyAt v)) (replicate wordCount 0) (omega (arith, many)) in
-    let places = placed.object-items.ensures ∙ ap (λ (l : List ℕ). each objectFrom objectSize limits.places l) (from objectsAt v) in
-    let all = kept.manifest-items.ensures ∙ ap (λ (l : List ℕ). each manifestFrom manifestSize (manifestLimit limits) l) (from manifestsAt v) in
-    let rest = held.hold-items.ensures ∙ ap (λ (l : List ℕ). each holdFrom holdSize limits.holds l) (from holdsAt v) in
+    let many : length (take word_count (drop occupancy_at v)) ≡ word_count = length-take-le word_count (drop occupancy_at v) (omega (arith, length-drop occupancy_at v)) in
+    let read : filled.fill.new.1.0 ≡ over (take word_count (drop occupancy_at v)) (replicate word_count 0) = filled.fill.ensures in
+    let words = read ∙ over-all (take word_count (drop occupancy_at v)) (replicate word_count 0) (omega (arith, many)) in
+    let places = placed.object-items.ensures ∙ ap (λ (l : List ℕ). each object_from object_size limits.places l) (from objects_at v) in
+    let all = kept.manifest-items.ensures ∙ ap (λ (l : List ℕ). each manifest_from manifest_size (manifest_limit limits) l) (from manifests_at v) in
+    let rest = held.hold-items.ensures ∙ ap (λ (l : List ℕ). each hold_from hold_size limits.holds l) (from holds_at v) in
     rw (words, places, all, rest)
 
-pub ledger-said-spec : {M : Type 1} → statement M
-ledger-said-spec =
+pub ledger_said_spec : {M : Type 1} → statement M
+ledger_said_spec =
     tie.close
     (tie.spec
     (λ c. search rules)

@@ -17,8 +17,8 @@ returns c =
     let many : length (take limits.names (drop names_at v)) ≡ limits.names = length-take-le limits.names (drop names_at v) (omega (arith, length-drop names_at v)) in
     rw (c.before.before.before.before.before.fill.ensures ∙ over-all (take limits.names (drop names_at v)) (replicate limits.names 0) (omega (arith, many)))
 
-pub manifest-from-spec : {M : Type 1} → statement M
-manifest-from-spec =
+pub manifest_from_spec : {M : Type 1} → statement M
+manifest_from_spec =
     tie.close
     (tie.spec
     (λ c. search rules)

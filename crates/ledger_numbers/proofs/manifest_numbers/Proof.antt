@@ -21,8 +21,8 @@ returns c =
     let many : length names ≡ limits.names = search rules in
     rw (append-nil, c.before.fill.ensures ∙ over-all names (replicate limits.names 0) (omega (arith, many)))
 
-pub manifest-numbers-spec : {M : Type 1} → statement M
-manifest-numbers-spec =
+pub manifest_numbers_spec : {M : Type 1} → statement M
+manifest_numbers_spec =
     tie.close
     (tie.spec
     (λ c. search rules)

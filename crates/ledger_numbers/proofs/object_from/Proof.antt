@@ -7,8 +7,8 @@ use Rattle.ledger_numbers.proofs.object_from.Tie as tie
 returns : tie.Need-returns
 returns c = rw c.before.before.before.role-from.ensures
 
-pub object-from-spec : {M : Type 1} → statement M
-object-from-spec =
+pub object_from_spec : {M : Type 1} → statement M
+object_from_spec =
     tie.close
     (tie.spec
     (λ c. search rules)

@@ -7,14 +7,14 @@ use lib.ListN.{length, drop}
 use borrow.Author.Tests.{not-true, not-false}
 use Rattle.rules.specs.Limits.{limits}
 use Rattle.rules.specs.Lists.{conj}
-use Rattle.ledger_numbers.specs.Numbers.{each, objectSize, canBe}
-use Rattle.ledger_numbers.proofs.Places.{all-hit, all-miss, all-over}
+use Rattle.ledger_numbers.specs.Numbers.{each, object_size, can_be}
+use Rattle.ledger_numbers.proofs.Places.{all_hit, all-miss, all-over}
 use borrow.Author.Rules.{rules}
 use Rattle.ledger_numbers.proofs.places_can_be.Statement.{statement}
 use Rattle.ledger_numbers.proofs.places_can_be.Tie as tie
 
 abbrev invariant-loop : tie.invariant-loop
-invariant-loop v i₀ i = (i ≤ limits.places) × (conj (each canBe objectSize (limits.places - i) (drop (objectSize * i) v)) ≡ conj (each canBe objectSize limits.places v))
+invariant-loop v i₀ i = (i ≤ limits.places) × (conj (each can_be object_size (limits.places - i) (drop (object_size * i) v)) ≡ conj (each can_be object_size limits.places v))
 
 abbrev decreases-loop : tie.decreases-loop
 decreases-loop v i₀ i = limits.places - i
@@ -43,7 +43,7 @@ can-be-requires c κs = search rules
 returns : tie.Need-returns invariant-loop decreases-loop
 returns c =
     let l = c.before.before.before.before.loop in
-    sym (sym l.invariant.1 ∙ all-miss canBe objectSize limits.places l.i c.before.before.before.before.before.before.args.v.now (omega arith) (sym c.before.can-be.ensures ∙ not-true _ c.if1.true))
+    sym (sym l.invariant.1 ∙ all-miss can_be object_size limits.places l.i c.before.before.before.before.before.before.args.v.now (omega arith) (sym c.before.can-be.ensures ∙ not-true _ c.if1.true))
 
 add-i : tie.Need-overflow-add-i invariant-loop decreases-loop
 add-i c = omega arith
@@ -54,15 +54,15 @@ loop-less c = omega arith
 loop-again : tie.Need-loop-preserved invariant-loop decreases-loop
 loop-again c =
     let l = c.before.before.before.before.loop in
-    (omega arith, sym (all-hit canBe objectSize limits.places l.i c.before.before.before.before.before.before.args.v.now (omega arith) (sym c.before.can-be.ensures ∙ not-false _ c.if1.false)) ∙ l.invariant.1)
+    (omega arith, sym (all_hit can_be object_size limits.places l.i c.before.before.before.before.before.before.args.v.now (omega arith) (sym c.before.can-be.ensures ∙ not-false _ c.if1.false)) ∙ l.invariant.1)
 
 returns-2 : tie.Need-returns-2 invariant-loop decreases-loop
 returns-2 c =
     let l = c.before.loop in
-    sym (sym l.invariant.1 ∙ all-over canBe objectSize limits.places l.i c.before.before.before.args.v.now (omega arith))
+    sym (sym l.invariant.1 ∙ all-over can_be object_size limits.places l.i c.before.before.before.args.v.now (omega arith))
 
-pub places-can-be-spec : {M : Type 1} → statement M
-places-can-be-spec =
+pub places_can_be_spec : {M : Type 1} → statement M
+places_can_be_spec =
     tie.close
     (tie.spec
     invariant-loop

@@ -7,16 +7,16 @@ use native.Mathlib.Omega.{arith}
 use lib.ListN.{length, take, drop}
 use borrow.Author.Rules.{rules}
 use borrow.Rule.Slice.PartMut.{same_len_mid, mid_len, mid_of, post_of}
-use Rattle.holds.specs.Holds.{noHold}
+use Rattle.holds.specs.Holds.{no_hold}
 use Rattle.rules.specs.Limits.{limits}
 use Rattle.fields.specs.Fields.{over}
-use Rattle.ledger_numbers.specs.Numbers.{holdSize, flat, holdNumbers}
+use Rattle.ledger_numbers.specs.Numbers.{hold_size, flat, hold_numbers}
 use Rattle.ledger_numbers.proofs.Places.{flat-next, flat-done}
 use Rattle.ledger_numbers.proofs.put_holds.Statement.{statement}
 use Rattle.ledger_numbers.proofs.put_holds.Tie as tie
 
 abbrev invariant-loop : tie.invariant-loop
-invariant-loop out₀ items i₀ out i = (i ≤ limits.holds) × (length out ≡ length out₀) × (length out ≡ limits.holds * holdSize) × (length items ≡ limits.holds) × (take (holdSize * i) out ++ flat holdNumbers (drop i items) ≡ flat holdNumbers items)
+invariant-loop out₀ items i₀ out i = (i ≤ limits.holds) × (length out ≡ length out₀) × (length out ≡ limits.holds * hold_size) × (length items ≡ limits.holds) × (take (hold_size * i) out ++ flat hold_numbers (drop i items) ≡ flat hold_numbers items)
 
 abbrev decreases-loop : tie.decreases-loop
 decreases-loop out₀ items i₀ out i = limits.holds - i
@@ -27,33 +27,33 @@ loop-holds c = (omega arith, refl, c.before.requires, search rules, refl)
 fill-requires : tie.Need-fill-requires invariant-loop decreases-loop
 fill-requires c κs =
     let l = c.before.before.before.before.before.loop in
-    let many : length c.before.before.hold-numbers.result ≡ holdSize = search rules in
-    omega (arith, many, mid_len (holdSize * l.i) (holdSize * l.i + holdSize) l.out (omega arith))
+    let many : length c.before.before.hold-numbers.result ≡ hold_size = search rules in
+    omega (arith, many, mid_len (hold_size * l.i) (hold_size * l.i + hold_size) l.out (omega arith))
 
 loop-again : tie.Need-loop-preserved invariant-loop decreases-loop
 loop-again c =
     let l = c.before.before.before.before.before.before.before.before.loop in
-    let a = holdSize * l.i in
+    let a = hold_size * l.i in
     let put = c.before.before.fill in
     let made = c.before.before.before.before.before.hold-numbers.ensures in
-    let same = same_len_mid a (a + holdSize - a) l.out put.new.1.0 put.auto.1.0 in
-    let many : length c.before.before.before.before.before.hold-numbers.result ≡ holdSize = search rules in
-    let part = mid_of a (a + holdSize - a) l.out in
-    let fits = mid_len a (a + holdSize) l.out (omega arith) in (
+    let same = same_len_mid a (a + hold_size - a) l.out put.new.1.0 put.auto.1.0 in
+    let many : length c.before.before.before.before.before.hold-numbers.result ≡ hold_size = search rules in
+    let part = mid_of a (a + hold_size - a) l.out in
+    let fits = mid_len a (a + hold_size) l.out (omega arith) in (
       omega arith,
       same ∙ l.invariant.1,
       same ∙ l.invariant.2,
       l.invariant.3,
-      flat-next holdNumbers holdSize l.i c.before.before.before.before.before.before.before.before.before.before.args.t1 noHold l.out part put.new.1.0 (post_of a (a + holdSize - a) l.out) (omega arith) (omega arith) (ap length (sym made) ∙ many) (omega (arith, fits)) (put.ensures ∙ ap (λ (n : List ℕ). over n part) made) l.invariant.4,
+      flat-next hold_numbers hold_size l.i c.before.before.before.before.before.before.before.before.before.before.args.t1 no_hold l.out part put.new.1.0 (post_of a (a + hold_size - a) l.out) (omega arith) (omega arith) (ap length (sym made) ∙ many) (omega (arith, fits)) (put.ensures ∙ ap (λ (n : List ℕ). over n part) made) l.invariant.4,
     )
 
 returns : tie.Need-returns invariant-loop decreases-loop
 returns c =
     let l = c.before.loop in
-    flat-done holdNumbers holdSize l.i _ l.out (omega arith) (omega arith) l.invariant.4
+    flat-done hold_numbers hold_size l.i _ l.out (omega arith) (omega arith) l.invariant.4
 
-pub put-holds-spec : {M : Type 1} → statement M
-put-holds-spec =
+pub put_holds_spec : {M : Type 1} → statement M
+put_holds_spec =
     tie.close
     (tie.spec
     invariant-loop

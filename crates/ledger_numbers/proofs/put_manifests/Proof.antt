@@ -7,19 +7,19 @@ use native.Mathlib.Omega.{arith}
 use lib.ListN.{length, take, drop}
 use borrow.Author.Rules.{rules}
 use borrow.Rule.Slice.PartMut.{same_len_mid, mid_len, mid_of, post_of}
-use Rattle.manifests.specs.Manifests.{pastEnd}
-use Rattle.rules.specs.Limits.{limits, manifestLimit}
+use Rattle.manifests.specs.Manifests.{past_end}
+use Rattle.rules.specs.Limits.{limits, manifest_limit}
 use Rattle.fields.specs.Fields.{over}
-use Rattle.ledger_numbers.specs.Numbers.{manifestSize, flat, manifestNumbers}
+use Rattle.ledger_numbers.specs.Numbers.{manifest_size, flat, manifest_numbers}
 use Rattle.ledger_numbers.proofs.Places.{flat-next, flat-done}
 use Rattle.ledger_numbers.proofs.put_manifests.Statement.{statement}
 use Rattle.ledger_numbers.proofs.put_manifests.Tie as tie
 
 abbrev invariant-loop : tie.invariant-loop
-invariant-loop out₀ items i₀ out i = (i ≤ manifestLimit limits) × (length out ≡ length out₀) × (length out ≡ manifestLimit limits * manifestSize) × (length items ≡ manifestLimit limits) × (take (manifestSize * i) out ++ flat manifestNumbers (drop i items) ≡ flat manifestNumbers items)
+invariant-loop out₀ items i₀ out i = (i ≤ manifest_limit limits) × (length out ≡ length out₀) × (length out ≡ manifest_limit limits * manifest_size) × (length items ≡ manifest_limit limits) × (take (manifest_size * i) out ++ flat manifest_numbers (drop i items) ≡ flat manifest_numbers items)
 
 abbrev decreases-loop : tie.decreases-loop
-decreases-loop out₀ items i₀ out i = manifestLimit limits - i
+decreases-loop out₀ items i₀ out i = manifest_limit limits - i
 
 loop-holds : tie.Need-loop-init invariant-loop decreases-loop
 loop-holds c = (omega arith, refl, c.before.requires, search rules, refl)
@@ -27,33 +27,33 @@ loop-holds c = (omega arith, refl, c.before.requires, search rules, refl)
 fill-requires : tie.Need-fill-requires invariant-loop decreases-loop
 fill-requires c κs =
     let l = c.before.before.before.before.before.loop in
-    let many : length c.before.before.manifest-numbers.result ≡ manifestSize = search rules in
-    omega (arith, many, mid_len (manifestSize * l.i) (manifestSize * l.i + manifestSize) l.out (omega arith))
+    let many : length c.before.before.manifest-numbers.result ≡ manifest_size = search rules in
+    omega (arith, many, mid_len (manifest_size * l.i) (manifest_size * l.i + manifest_size) l.out (omega arith))
 
 loop-again : tie.Need-loop-preserved invariant-loop decreases-loop
 loop-again c =
     let l = c.before.before.before.before.before.before.before.before.loop in
-    let a = manifestSize * l.i in
+    let a = manifest_size * l.i in
     let put = c.before.before.fill in
     let made = c.before.before.before.before.before.manifest-numbers.ensures in
-    let same = same_len_mid a (a + manifestSize - a) l.out put.new.1.0 put.auto.1.0 in
-    let many : length c.before.before.before.before.before.manifest-numbers.result ≡ manifestSize = search rules in
-    let part = mid_of a (a + manifestSize - a) l.out in
-    let fits = mid_len a (a + manifestSize) l.out (omega arith) in (
+    let same = same_len_mid a (a + manifest_size - a) l.out put.new.1.0 put.auto.1.0 in
+    let many : length c.before.before.before.before.before.manifest-numbers.result ≡ manifest_size = search rules in
+    let part = mid_of a (a + manifest_size - a) l.out in
+    let fits = mid_len a (a + manifest_size) l.out (omega arith) in (
       omega arith,
       same ∙ l.invariant.1,
       same ∙ l.invariant.2,
       l.invariant.3,
-      flat-next manifestNumbers manifestSize l.i c.before.before.before.before.before.before.before.before.before.before.args.t1 pastEnd l.out part put.new.1.0 (post_of a (a + manifestSize - a) l.out) (omega arith) (omega arith) (ap length (sym made) ∙ many) (omega (arith, fits)) (put.ensures ∙ ap (λ (n : List ℕ). over n part) made) l.invariant.4,
+      flat-next manifest_numbers manifest_size l.i c.before.before.before.before.before.before.before.before.before.before.args.t1 past_end l.out part put.new.1.0 (post_of a (a + manifest_size - a) l.out) (omega arith) (omega arith) (ap length (sym made) ∙ many) (omega (arith, fits)) (put.ensures ∙ ap (λ (n : List ℕ). over n part) made) l.invariant.4,
     )
 
 returns : tie.Need-returns invariant-loop decreases-loop
 returns c =
     let l = c.before.loop in
-    flat-done manifestNumbers manifestSize l.i _ l.out (omega arith) (omega arith) l.invariant.4
+    flat-done manifest_numbers manifest_size l.i _ l.out (omega arith) (omega arith) l.invariant.4
 
-pub put-manifests-spec : {M : Type 1} → statement M
-put-manifests-spec =
+pub put_manifests_spec : {M : Type 1} → statement M
+put_manifests_spec =
     tie.close
     (tie.spec
     invariant-loop

@@ -10,5 +10,5 @@ returns c = rw (eq-eqb c.before.args.n 0 c.if1.true)
 returns-2 : tie.Need-returns-2
 returns-2 c = rw (ne_eqb c.before.args.n 0 c.if1.false)
 
-pub role-from-spec : {M : Type 1} → statement M
-role-from-spec = tie.close (tie.spec returns returns-2)
+pub role_from_spec : {M : Type 1} → statement M
+role_from_spec = tie.close (tie.spec returns returns-2)

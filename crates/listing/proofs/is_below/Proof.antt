@@ -76,8 +76,8 @@ returns-4 c =
     let l = c.before.loop in
     rw (drop_of_length-le c.before.before.args.b.now {i = l.i} c.loop-test.false) at l.invariant.2
 
-pub is-below-spec : {M : Type 1} → statement M
-is-below-spec =
+pub is_below_spec : {M : Type 1} → statement M
+is_below_spec =
     tie.close
     (tie.spec
     invariant-loop

@@ -9,17 +9,17 @@ use lib.ListN.{length, take, drop, length-drop, drop_of_length-le}
 use lib.Seq.{drop-drop, take_all}
 use Rattle.listing.specs.declared.Listing.{Listing}
 use Rattle.listing.specs.Lines.{lines_of}
-use Rattle.listing.specs.Listing.{listingOf}
-use Rattle.listing.specs.Turns.{lineLength, nameBehind}
-use Rattle.listing.proofs.Cutting.{line-length-le, lines_none}
-use Rattle.listing.proofs.Telling.{tell, tell-torn, tell-bad, tell-next, tell-all, with-few}
+use Rattle.listing.specs.Listing.{listing_of}
+use Rattle.listing.specs.Turns.{line_length, name_behind}
+use Rattle.listing.proofs.Cutting.{line_length_le, lines_none}
+use Rattle.listing.proofs.Telling.{tell, tell-torn, tell_bad, tell-next, tell-all, with_few}
 use Rattle.listing.proofs.read_listing.Statement.{statement}
 use Rattle.listing.proofs.read_listing.Tie as tie
 
 abbrev invariant-loop : tie.invariant-loop
 invariant-loop bytes said₀ line₀ from₀ to₀ start₀ said line from to start =
     (start ≤ length bytes) × (line ≤ start) × (said.objects ≤ line) × (from ≤ to) × (to ≤ length bytes)
-    × (tell said line (take (to - from) (drop from bytes)) (lines_of (drop start bytes)) ≡ listingOf bytes)
+    × (tell said line (take (to - from) (drop from bytes)) (lines_of (drop start bytes)) ≡ listing_of bytes)
 
 abbrev decreases-loop : tie.decreases-loop
 decreases-loop bytes said₀ line₀ from₀ to₀ start₀ said line from to start = length bytes - start
@@ -44,42 +44,42 @@ module _ (c : tie.After-line-length invariant-loop decreases-loop) where
   some : 0 < length rest
   some = omega (arith, length-drop at.loop.start all, c.before.before.loop-test.true)
 
-  front : c.line-length.result ≡ lineLength rest
-  front = c.line-length.ensures ∙ ap lineLength (take_all (length all - at.loop.start) rest (omega (arith, length-drop at.loop.start all)))
+  front : c.line-length.result ≡ line_length rest
+  front = c.line-length.ensures ∙ ap line_length (take_all (length all - at.loop.start) rest (omega (arith, length-drop at.loop.start all)))
 
-  end-within : at.loop.start + c.line-length.result ≤ length all
-  end-within = omega (arith, front, line-length-le rest, length-drop at.loop.start all)
+  end_within : at.loop.start + c.line-length.result ≤ length all
+  end_within = omega (arith, front, line_length_le rest, length-drop at.loop.start all)
 
 -- behind that of `name_behind`: the line has its 0A, and this was read
 module _ (c : tie.After-name-behind invariant-loop decreases-loop) where
   abbrev line : tie.After-line-length invariant-loop decreases-loop
   line = c.before.before.before.before
 
-  ended : lineLength (rest line) < length (rest line)
-  ended = omega (arith, length-drop (at line).loop.start (all line), front line, end-within line, c.before.before.before.if1.false)
+  ended : line_length (rest line) < length (rest line)
+  ended = omega (arith, length-drop (at line).loop.start (all line), front line, end_within line, c.before.before.before.if1.false)
 
-  was_read : nameBehind (before line) (take (lineLength (rest line)) (rest line)) ≡ c.name-behind.result
+  was_read : name_behind (before line) (take (line_length (rest line)) (rest line)) ≡ c.name-behind.result
   was_read =
-      let size : (at line).loop.start + line.line-length.result - (at line).loop.start ≡ lineLength (rest line) = omega (arith, front line) in
-      sym (c.name-behind.ensures ∙ ap (λ (k : ℕ). nameBehind (before line) (take k (rest line))) size)
+      let size : (at line).loop.start + line.line-length.result - (at line).loop.start ≡ line_length (rest line) = omega (arith, front line) in
+      sym (c.name-behind.ensures ∙ ap (λ (k : ℕ). name_behind (before line) (take k (rest line))) size)
 
 part_end : tie.Need-slice-bounds-name-behind-end-2 invariant-loop decreases-loop
-part_end c = omega (arith, end-within c.before.before)
+part_end c = omega (arith, end_within c.before.before)
 
 add-end : tie.Need-overflow-add-end invariant-loop decreases-loop
-add-end c = omega (arith, end-within c)
+add-end c = omega (arith, end_within c)
 
 returns : tie.Need-returns invariant-loop decreases-loop
 returns c =
     let p = c.before.before in
-    let torn : lineLength (rest p) ≡ length (rest p) = omega (arith, front p, length-drop (at p).loop.start (all p), c.before.if1.true) in
+    let torn : line_length (rest p) ≡ length (rest p) = omega (arith, front p, length-drop (at p).loop.start (all p), c.before.if1.true) in
     c.with-bad.ensures ∙ sym (tell-torn (at p).loop.said (at p).loop.line (before p) (rest p) (some p) torn) ∙ (at p).loop.invariant.5
 
 returns-2 : tie.Need-returns-2 invariant-loop decreases-loop
 returns-2 c =
     let r = c.before.before.before in
     let p = line r in
-    c.with-bad2.ensures ∙ sym (tell-bad (at p).loop.said (at p).loop.line (before p) (rest p) (ended r) (was_read r ∙ c.before.enum_told.given.1)) ∙ (at p).loop.inv.5
+    c.with-bad2.ensures ∙ sym (tell_bad (at p).loop.said (at p).loop.line (before p) (rest p) (ended r) (was_read r ∙ c.before.enum_told.given.1)) ∙ (at p).loop.inv.5
 
 -- the line and its 0A are among the bytes
 within : (c : tie.After-name-behind invariant-loop decreases-loop) → (at (line c)).loop.start + (line c).line-length.result + 1 ≤ length (all (line c))
@@ -91,12 +91,12 @@ loop-again c =
     let p = line r in
     let l = (at p).loop in
     let v = c.before.before.read.given.0.0 in
-    let size : l.start + p.line-length.result - l.start ≡ lineLength (rest p) = omega (arith, front p) in
-    let next : l.start + (lineLength (rest p) + 1) ≡ l.start + p.line-length.result + 1 = omega (arith, front p) in
+    let size : l.start + p.line-length.result - l.start ≡ line_length (rest p) = omega (arith, front p) in
+    let next : l.start + (line_length (rest p) + 1) ≡ l.start + p.line-length.result + 1 = omega (arith, front p) in
     let bound = within r in (
       omega (arith, bound),
       omega arith,
-      omega (arith, ap (λ (s : Listing). s.objects) c.with-name.ensures, with-few l.said v),
+      omega (arith, ap (λ (s : Listing). s.objects) c.with-name.ensures, with_few l.said v),
       omega arith,
       omega (arith, bound),
       rw (c.with-name.ensures, size, ← next, ← drop-drop) (sym (tell-next l.said l.line (before p) (rest p) (ended r) v (was_read r ∙ c.before.before.read.given.1)) ∙ l.inv.5),
@@ -108,8 +108,8 @@ returns-3 c =
     let l = c.before.loop in
     rw (drop_of_length-le c.before.before.before.args.bytes.now {i = l.start} (omega (arith, c.loop-test.false)), lines_none) at l.invariant.5
 
-pub read-listing-spec : {M : Type 1} → statement M
-read-listing-spec =
+pub read_listing_spec : {M : Type 1} → statement M
+read_listing_spec =
     tie.close
     (tie.spec
     invariant-loop

@@ -10,5 +10,5 @@ returns c = rw c.before.name.given.1
 returns-2 : tie.Need-returns-2
 returns-2 c = rw c.before.enum_told.given.1
 
-pub with-name-spec : {M : Type 1} → statement M
-with-name-spec = tie.close (tie.spec (λ c. search rules) (λ c. search rules) (λ c. search rules) returns returns-2)
+pub with_name_spec : {M : Type 1} → statement M
+with_name_spec = tie.close (tie.spec (λ c. search rules) (λ c. search rules) (λ c. search rules) returns returns-2)

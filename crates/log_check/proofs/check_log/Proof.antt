@@ -6,7 +6,7 @@ use borrow.Author.Tests.{not-true, not-false}
 use native.Mathlib.Omega.{arith}
 use lib.ListN.{length}
 use lib.Seq.{length-take-le}
-use Rattle.log_check.proofs.Loop.{Invariant, initially, Iteration, at_exit, some_read, read-within, verdict-within, differs, logged-within, preserved}
+use Rattle.log_check.proofs.Loop.{Invariant, initially, Iteration, at_exit, some_read, read_within_lem, verdict-within, differs, logged-within, preserved}
 use Rattle.log_check.proofs.check_log.Statement.{statement}
 use Rattle.log_check.proofs.check_log.Tie as tie
 
@@ -62,7 +62,7 @@ add_read c =
     let start = s.before.before.before.before.before.before in
     let t = iteration s in
     let at = known.before.front.given.1 in
-    omega (arith, read-within t _ _ at, start.well-formed.1.0.0)
+    omega (arith, read_within_lem t _ _ at, start.well-formed.1.0.0)
 
 add-agreed : tie.Need-overflow-add-agreed invariant-loop decreases-loop
 add-agreed c =
@@ -80,14 +80,14 @@ add-index c =
     let start = s.before.before.before.before.before.before in
     let t = iteration s in
     let at = known.before.front.given.1 in
-    omega (arith, some_read t _ _ at, read-within t _ _ at, t.before.few, start.well-formed.1.0.0)
+    omega (arith, some_read t _ _ at, read_within_lem t _ _ at, t.before.few, start.well-formed.1.0.0)
 
 loop-less : tie.Need-loop-smaller invariant-loop decreases-loop
 loop-less c =
     let known = c.before.before.before.before.before in
     let t = iteration known.before.before.before.before in
     let at = known.before.front.given.1 in
-    omega (arith, some_read t _ _ at, read-within t _ _ at)
+    omega (arith, some_read t _ _ at, read_within_lem t _ _ at)
 
 loop-again : tie.Need-loop-preserved invariant-loop decreases-loop
 loop-again c =
@@ -96,8 +96,8 @@ loop-again c =
     preserved (iteration s) _ _ known.before.front.given.1 (sym c.before.before.starts_with.ensures ∙ not-false _ c.before.if1.false)
     (s.before.before.before.loop.invariant.room ∙ sym s.step-record.auto.1.1.0)
 
-pub check-log-spec : {M : Type 1} → statement M
-check-log-spec =
+pub check_log_spec : {M : Type 1} → statement M
+check_log_spec =
     tie.close
     (tie.spec
     invariant-loop

@@ -21,8 +21,8 @@ returns-4 c = rw c.enum-told3.given.1
 returns-5 : tie.Need-returns-5
 returns-5 c = rw c.enum-told4.given.1
 
-pub ended-spec : {M : Type 1} → statement M
-ended-spec =
+pub ended_spec : {M : Type 1} → statement M
+ended_spec =
     tie.close
     (tie.spec
     (λ c. search rules)

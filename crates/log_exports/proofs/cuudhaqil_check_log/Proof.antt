@@ -10,21 +10,21 @@ use Rattle.fields.specs.Fields.{over}
 use Rattle.rules.proofs.Typed.{length_none}
 use Rattle.log_check.specs.declared.CheckedFrom.{CheckedFrom}
 use Rattle.log_check.specs.declared.CheckedFrom.TheVariants.{Loaded}
-use Rattle.log_check.specs.Image.{answerCode}
+use Rattle.log_check.specs.Image.{answer_code}
 use Rattle.exports.specs.Names.{Call}
-use Rattle.log_exports.specs.Calls.{foundOf, leftBy, checkLog}
+use Rattle.log_exports.specs.Calls.{found_of, left_by, check_log}
 use borrow.Author.Rules.{rules}
 use Rattle.log_exports.proofs.cuudhaqil_check_log.Statement.{statement}
 use Rattle.log_exports.proofs.cuudhaqil_check_log.Tie as tie
 
 -- with an element for the index
 abbrev answered : CheckedFrom → List ℕ → Call
-answered x at = record { answer = answerCode x; left = leftBy x at }
+answered x at = record { answer = answer_code x; left = left_by x at }
 
-lent : (image trace log at : List ℕ) {x : CheckedFrom} → (length at ≡ 0 → ⊥) → x ≡ foundOf image trace log → checkLog image trace log at ≡ answered x at
-unfolding checkLog
+lent : (image trace log at : List ℕ) {x : CheckedFrom} → (length at ≡ 0 → ⊥) → x ≡ found_of image trace log → check_log image trace log at ≡ answered x at
+unfolding check_log
 lent image trace log at h e =
-    ap (λ (b : Bool). cond b (record { answer = 3; left = at }) (answered (foundOf image trace log) at)) (sym (length_none at) ∙ ne_eqb _ 0 h)
+    ap (λ (b : Bool). cond b (record { answer = 3; left = at }) (answered (found_of image trace log) at)) (sym (length_none at) ∙ ne_eqb _ 0 h)
     ∙ ap (λ (x : CheckedFrom). answered x at) (sym e)
 
 -- the first element is stored
@@ -33,7 +33,7 @@ first-set n [] h = absurd (h refl)
 first-set n (x ∷ xs) h = refl
 
 returns : tie.Need-returns
-unfolding checkLog
+unfolding check_log
 returns c = rw (← length_none c.before.before.before.before.before.args.at.now, eq-eqb _ 0 c.if1.true)
 
 returns-2 : tie.Need-returns-2
@@ -51,8 +51,8 @@ returns-3 c =
 returns-4 : tie.Need-returns-4
 returns-4 c = lent _ _ _ _ c.before.before.before.before.if1.false (sym c.before.found3.given.1 ∙ c.before.before.before.found.ensures)
 
-pub cuudhaqil-check-log-spec : {M : Type 1} → statement M
-cuudhaqil-check-log-spec =
+pub cuudhaqil_check_log_spec : {M : Type 1} → statement M
+cuudhaqil_check_log_spec =
     tie.close
     (tie.spec
     returns

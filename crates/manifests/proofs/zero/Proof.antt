@@ -8,5 +8,5 @@ use Rattle.manifests.proofs.zero.Tie as tie
 returns : tie.Need-returns
 returns c = sym first-laid
 
-pub zero-spec : {M : Type 1} → statement M
-zero-spec = tie.close (tie.spec returns)
+pub zero_spec : {M : Type 1} → statement M
+zero_spec = tie.close (tie.spec returns)

@@ -8,7 +8,7 @@ use borrow.Author.Tests.{lt-ltb, le-ltb}
 use lib.ListN.{length}
 use lib.Seq.{slice, take_all}
 use Rattle.rules.specs.Lists.{all}
-use Rattle.arrays.proofs.Scan.{scan-next, scan-stop, scan-end, all-hit, all-miss}
+use Rattle.arrays.proofs.Scan.{scan_next, scan_stop, scan_end, all_hit, all-miss}
 use Rattle.objects.specs.Objects.{among}
 use borrow.Author.Rules.{rules}
 use Rattle.objects.proofs.all_among.Statement.{statement}
@@ -33,7 +33,7 @@ returns : tie.Need-returns invariant-loop decreases-loop
 returns c =
     let l = c.before.before.before.before.before.before.before.args.list.now in
     let ns = c.before.before.before.before.before.before.before.args.numbers.now in
-    scan-stop l (length l) (all (among ns)) c.before.before.before.before.loop.invariant.2 0 (omega arith) (omega arith) false (all-miss _ _ _ (sym c.before.place-from.ensures ∙ le-ltb c.before.place-from.result (length ns) c.if1.true))
+    scan_stop l (length l) (all (among ns)) c.before.before.before.before.loop.invariant.2 0 (omega arith) (omega arith) false (all-miss _ _ _ (sym c.before.place-from.ensures ∙ le-ltb c.before.place-from.result (length ns) c.if1.true))
 
 add-i : tie.Need-overflow-add-i invariant-loop decreases-loop
 add-i c = omega arith
@@ -46,7 +46,7 @@ loop-again c =
     let l = c.before.before.before.before.before.before.before.args.list.now in
     let ns = c.before.before.before.before.before.before.before.args.numbers.now in
     let ask = all (among ns) in
-    (omega arith, omega (arith, c.if1.false), scan-next l (length l) ask c.before.before.before.before.loop.invariant.2 0 (omega arith) (omega arith) ask (all-hit _ _ _ (sym c.before.place-from.ensures ∙ lt-ltb c.before.place-from.result (length ns) (omega (arith, c.if1.false)))))
+    (omega arith, omega (arith, c.if1.false), scan_next l (length l) ask c.before.before.before.before.loop.invariant.2 0 (omega arith) (omega arith) ask (all_hit _ _ _ (sym c.before.place-from.ensures ∙ lt-ltb c.before.place-from.result (length ns) (omega (arith, c.if1.false)))))
 
 returns-2 : tie.Need-returns-2 invariant-loop decreases-loop
 unfolding all
@@ -54,10 +54,10 @@ returns-2 c =
     let l = c.before.before.before.before.args.list.now in
     let ns = c.before.before.before.before.args.numbers.now in
     let e : c.before.loop.i ≡ length l = omega arith in
-    scan-end l (length l) (all (among ns)) (rw e at c.before.loop.invariant.2)
+    scan_end l (length l) (all (among ns)) (rw e at c.before.loop.invariant.2)
 
-pub all-among-spec : {M : Type 1} → statement M
-all-among-spec =
+pub all_among_spec : {M : Type 1} → statement M
+all_among_spec =
     tie.close
     (tie.spec
     invariant-loop

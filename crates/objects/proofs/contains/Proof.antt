@@ -10,7 +10,7 @@ use lib.Dec.{eqb}
 use lib.ListN.{length}
 use lib.Seq.{slice, take_all}
 use Rattle.rules.specs.Lists.{any, has}
-use Rattle.arrays.proofs.Scan.{scan-next, scan-stop, scan-end, any-hit, any-miss}
+use Rattle.arrays.proofs.Scan.{scan_next, scan_stop, scan_end, any_hit, any-miss}
 use Rattle.objects.proofs.contains.Statement.{statement}
 use Rattle.objects.proofs.contains.Tie as tie
 
@@ -34,7 +34,7 @@ returns : tie.Need-returns invariant-loop decreases-loop
 returns c =
     let a = c.before.before.before in
     let s = a.before.args in
-    scan-stop s.list.now (length s.list.now) (any (eqb s.number)) a.loop.invariant.1 0 (omega arith) (omega arith) true (any-hit _ _ _ (eq-eqb _ _ (sym c.if1.true)))
+    scan_stop s.list.now (length s.list.now) (any (eqb s.number)) a.loop.invariant.1 0 (omega arith) (omega arith) true (any_hit _ _ _ (eq-eqb _ _ (sym c.if1.true)))
 
 add-i : tie.Need-overflow-add-i invariant-loop decreases-loop
 add-i c = omega arith
@@ -47,17 +47,17 @@ loop-again c =
     let a = c.before.before.before in
     let s = a.before.args in
     let ask = any (eqb s.number) in
-    (omega arith, scan-next s.list.now (length s.list.now) ask a.loop.invariant.1 0 (omega arith) (omega arith) ask (any-miss _ _ _ (ne_eqb _ _ (λ e. c.if1.false (sym e)))))
+    (omega arith, scan_next s.list.now (length s.list.now) ask a.loop.invariant.1 0 (omega arith) (omega arith) ask (any-miss _ _ _ (ne_eqb _ _ (λ e. c.if1.false (sym e)))))
 
 returns-2 : tie.Need-returns-2 invariant-loop decreases-loop
 unfolding any
 returns-2 c =
     let s = c.before.before.args in
     let e : c.before.loop.i ≡ length s.list.now = omega arith in
-    scan-end s.list.now (length s.list.now) (any (eqb s.number)) (rw e at c.before.loop.invariant.1)
+    scan_end s.list.now (length s.list.now) (any (eqb s.number)) (rw e at c.before.loop.invariant.1)
 
-pub contains-spec : {M : Type 1} → statement M
-contains-spec =
+pub contains_spec : {M : Type 1} → statement M
+contains_spec =
     tie.close
     (tie.spec
     invariant-loop

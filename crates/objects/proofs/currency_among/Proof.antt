@@ -11,7 +11,7 @@ use borrow.Author.Tests.{eq-eqb, ne_eqb}
 use lib.Dec.{eqb}
 use lib.ListN.{length, drop, get_or, drop_of_length-le}
 use lib.Seq.{drop-cons}
-use Rattle.objects.specs.Objects.{beside, currencyAmong}
+use Rattle.objects.specs.Objects.{beside, currency_among}
 use Rattle.objects.proofs.currency_among.Statement.{statement}
 use Rattle.objects.proofs.currency_among.Tie as tie
 
@@ -29,11 +29,11 @@ unfolding beside
 left-none ns cs n i h = rw (drop_of_length-le ns {i = i} h)
 
 -- of a number that is not 0
-sought : (ns cs : List ℕ) (n : ℕ) → (n ≡ 0 → ⊥) → currencyAmong ns cs n ≡ beside ns cs n
+sought : (ns cs : List ℕ) (n : ℕ) → (n ≡ 0 → ⊥) → currency_among ns cs n ≡ beside ns cs n
 sought ns cs n h = ap (λ (b : Bool). cond (not b) (beside ns cs n) 0) (ne_eqb n 0 h)
 
 abbrev invariant-loop : tie.invariant-loop
-invariant-loop numbers currencies number i₀ i = (i ≤ length numbers) × (currencyAmong numbers currencies number ≡ left numbers currencies number i)
+invariant-loop numbers currencies number i₀ i = (i ≤ length numbers) × (currency_among numbers currencies number ≡ left numbers currencies number i)
 
 abbrev decreases-loop : tie.decreases-loop
 decreases-loop numbers currencies number i₀ i = length numbers - i
@@ -89,8 +89,8 @@ returns-3 c =
     let s = c.before.before.before.args in
     sym (c.before.loop.invariant.1 ∙ left-none s.numbers.now s.currencies.now s.number c.before.loop.i (omega arith))
 
-pub currency-among-spec : {M : Type 1} → statement M
-currency-among-spec =
+pub currency_among_spec : {M : Type 1} → statement M
+currency_among_spec =
     tie.close
     (tie.spec
     invariant-loop

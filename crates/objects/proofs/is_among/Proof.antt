@@ -24,5 +24,5 @@ returns-2 c =
     let s = c.before.before.before.args in
     c.contains.ensures ∙ sym (ap (λ (b : Bool). not b && has s.number s.numbers.now) (ne_eqb s.number 0 c.before.if1.false))
 
-pub is-among-spec : {M : Type 1} → statement M
-is-among-spec = tie.close (tie.spec returns contains-requires returns-2)
+pub is_among_spec : {M : Type 1} → statement M
+is_among_spec = tie.close (tie.spec returns contains-requires returns-2)

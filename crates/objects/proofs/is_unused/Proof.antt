@@ -6,7 +6,7 @@ use borrow.Author.Rules.{rules}
 use lib.Dec.{eqb}
 use borrow.Author.Tests.{eq-eqb, ne_eqb, not-true, not-false}
 use Rattle.rules.specs.Lists.{conj}
-use Rattle.rules.specs.Sound.{unused, isWriter}
+use Rattle.rules.specs.Sound.{unused, is_writer}
 use Rattle.objects.proofs.is_unused.Statement.{statement}
 use Rattle.objects.proofs.is_unused.Tie as tie
 
@@ -19,11 +19,11 @@ is-writer-requires c κs = search rules
 
 returns-2 : tie.Need-returns-2
 unfolding unused conj
-returns-2 c = rw (eq-eqb _ _ c.before.before.if1.false, sym c.before.is-writer.ensures ∙ not-true _ c.if2.true)
+returns-2 c = rw (eq-eqb _ _ c.before.before.if1.false, sym c.before.is_writer_lem.ensures ∙ not-true _ c.if2.true)
 
 -- the number is 0 and the role is the writer's
-zero-writer : (c : tie.Else2) → (eqb c.before.before.before.before.args.object.number 0 ≡ true) × (isWriter c.before.before.before.before.args.object.role ≡ true)
-zero-writer c = (eq-eqb _ _ c.before.before.if1.false, sym c.before.is-writer.ensures ∙ not-false _ c.if2.false)
+zero-writer : (c : tie.Else2) → (eqb c.before.before.before.before.args.object.number 0 ≡ true) × (is_writer c.before.before.before.before.args.object.role ≡ true)
+zero-writer c = (eq-eqb _ _ c.before.before.if1.false, sym c.before.is_writer_lem.ensures ∙ not-false _ c.if2.false)
 
 returns-3 : tie.Need-returns-3
 unfolding unused conj
@@ -41,6 +41,6 @@ returns-5 c =
     let z = zero-writer c.before.before.before.before.before in
     rw (z.0, z.1, eq-eqb _ _ c.before.before.before.if3.false, eq-eqb _ _ c.before.if4.false, and-true)
 
-pub is-unused-spec : {M : Type 1} → statement M
-is-unused-spec =
+pub is_unused_spec : {M : Type 1} → statement M
+is_unused_spec =
     tie.close (tie.spec returns is-writer-requires returns-2 returns-3 returns-4 returns-5)

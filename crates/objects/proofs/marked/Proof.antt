@@ -21,5 +21,5 @@ returns-2 c =
     let e = sym c.before.contains.ensures ∙ c.if1.false in
     λ i. record { number = o.number; role = o.role; epoch = o.epoch; currency = o.currency; named = (sym (or-false o.named) ∙ ap (λ (b : Bool). o.named || b) (sym e)) i }
 
-pub marked-spec : {M : Type 1} → statement M
-marked-spec = tie.close (tie.spec contains-requires returns returns-2)
+pub marked_spec : {M : Type 1} → statement M
+marked_spec = tie.close (tie.spec contains-requires returns returns-2)

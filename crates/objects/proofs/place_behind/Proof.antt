@@ -9,7 +9,7 @@ use lib.Dec.{eqb}
 use lib.ListN.{length, drop, get_or, drop_of_length-le}
 use lib.Seq.{drop-cons}
 use Rattle.rules.specs.Lists.{any, has}
-use Rattle.arrays.proofs.Scan.{any-hit, any-miss}
+use Rattle.arrays.proofs.Scan.{any_hit, any-miss}
 use borrow.Author.Rules.{rules}
 use Rattle.objects.proofs.place_behind.Statement.{statement}
 use Rattle.objects.proofs.place_behind.Tie as tie
@@ -29,7 +29,7 @@ returns c =
     let ns = c.before.before.before.before.args.numbers.now in
     let n = c.before.before.before.before.args.number in
     let i = c.before.before.before.loop.i in
-    lt-ltb i (length ns) (omega arith) ∙ sym (any-hit (eqb n) (get_or ns i 0) (drop (suc i) ns) (eq-eqb n (get_or ns i 0) (sym c.if1.true))) ∙ ap (any (eqb n)) (sym (drop-cons ns i 0 (omega arith))) ∙ c.before.before.before.loop.invariant.1
+    lt-ltb i (length ns) (omega arith) ∙ sym (any_hit (eqb n) (get_or ns i 0) (drop (suc i) ns) (eq-eqb n (get_or ns i 0) (sym c.if1.true))) ∙ ap (any (eqb n)) (sym (drop-cons ns i 0 (omega arith))) ∙ c.before.before.before.loop.invariant.1
 
 loop-again : tie.Need-loop-preserved invariant-loop decreases-loop
 unfolding has
@@ -47,8 +47,8 @@ returns-2 c =
     let i = c.before.loop.i in
     le-ltb i (length ns) (omega arith) ∙ ap (any (eqb n)) (sym (drop_of_length-le ns {i = i} (omega arith))) ∙ c.before.loop.invariant.1
 
-pub place-behind-spec : {M : Type 1} → statement M
-place-behind-spec =
+pub place_behind_spec : {M : Type 1} → statement M
+place_behind_spec =
     tie.close
     (tie.spec
     invariant-loop

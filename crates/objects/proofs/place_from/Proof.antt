@@ -39,8 +39,8 @@ returns-3 c =
     let n = c.before.before.before.before.before.args.number in
     c.place-behind2.ensures ∙ sym (ap (λ (b : Bool). not b && has n ns) (ne_eqb n 0 c.before.before.before.if1.false))
 
-pub place-from-spec : {M : Type 1} → statement M
-place-from-spec =
+pub place_from_spec : {M : Type 1} → statement M
+place_from_spec =
     tie.close
     (tie.spec
     returns

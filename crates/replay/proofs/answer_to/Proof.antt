@@ -2,7 +2,7 @@
 -- Assumes nothing.
 use mathlib.Core.Path.{sym, ap, ◌∙◌}
 use borrow.Author.Rules.{rules}
-use Rattle.rules.specs.Typed.{requestOf}
+use Rattle.rules.specs.Typed.{request_of}
 use Rattle.records.specs.declared.StepRead.{StepRead}
 use Rattle.ledger.specs.Step.{judged}
 use Rattle.replay.proofs.Reading.{read-judged, refused-judged}
@@ -14,7 +14,7 @@ returns c =
     let read = c.before.before.before.before in
     let a = read.before.before.args in
     let same = read.Read-step.ensures in
-    c.step2.ensures ∙ ap (λ (r : StepRead). judged a.ledger (requestOf r.step)) same
+    c.step2.ensures ∙ ap (λ (r : StepRead). judged a.ledger (request_of r.step)) same
     ∙ read-judged a.ledger a.bytes.now (ap (λ (r : StepRead). r.reading) (sym same) ∙ c.before.enum_told.given.1)
 
 returns-2 : tie.Need-returns-2
@@ -24,8 +24,8 @@ returns-2 c =
     c.refuse-unreadable.ensures
     ∙ refused-judged a.ledger a.bytes.now (ap (λ (r : StepRead). r.reading) (sym read.Read-step.ensures) ∙ c.before.enum-told2.given.1)
 
-pub answer-to-spec : {M : Type 1} → statement M
-answer-to-spec =
+pub answer_to_spec : {M : Type 1} → statement M
+answer_to_spec =
     tie.close
     (tie.spec
     (λ c κs. tt)

@@ -3,7 +3,7 @@
 use mathlib.Core.Path.{ap, ◌∙◌}
 use borrow.Author.Rules.{rules}
 use Rattle.records.specs.declared.Write.{Write}
-use Rattle.replay.proofs.Judging.{steppedBy, unwritten, record-stepped}
+use Rattle.replay.proofs.Judging.{stepped_by, unwritten, record_stepped}
 use Rattle.replay.proofs.judge_record.Statement.{statement}
 use Rattle.replay.proofs.judge_record.Tie as tie
 
@@ -12,7 +12,7 @@ returns c =
     let wrote = c.before.before.before in
     let answer = wrote.before.before.before.before in
     let a = answer.before.before.before.args in
-    record-stepped a.before a.bytes.now a.out.now answer.answer-to.ensures wrote.write-verdict.ensures
+    record_stepped a.before a.bytes.now a.out.now answer.answer-to.ensures wrote.write-verdict.ensures
     ∙ unwritten a.before a.bytes.now answer.answer-to.result wrote.write-verdict.result wrote.write-verdict.new.1.0 c.match.keys2
 
 returns-2 : tie.Need-returns-2
@@ -20,11 +20,11 @@ returns-2 c =
     let wrote = c.before.before.before.before.before in
     let answer = wrote.before.before.before.before in
     let a = answer.before.before.before.args in
-    record-stepped a.before a.bytes.now a.out.now answer.answer-to.ensures wrote.write-verdict.ensures
-    ∙ ap (λ (w : Write). steppedBy a.before a.bytes.now answer.answer-to.result w wrote.write-verdict.new.1.0) c.before.write.given.1
+    record_stepped a.before a.bytes.now a.out.now answer.answer-to.ensures wrote.write-verdict.ensures
+    ∙ ap (λ (w : Write). stepped_by a.before a.bytes.now answer.answer-to.result w wrote.write-verdict.new.1.0) c.before.write.given.1
 
-pub judge-record-spec : {M : Type 1} → statement M
-judge-record-spec =
+pub judge_record_spec : {M : Type 1} → statement M
+judge_record_spec =
     tie.close
     (tie.spec
     (λ c κs. tt)

@@ -4,7 +4,7 @@ use Prim.Native.Nat.{◌-◌}
 use borrow.Author.Rules.{rules}
 use native.Mathlib.Omega.{arith}
 use lib.ListN.{length}
-use Rattle.replay.proofs.Running.{Going, at-start, Turn, stops, some_read, read-within, written-within, goes-again}
+use Rattle.replay.proofs.Running.{Going, at_start_lem, Turn, stops, some_read, read_within_lem, written-within, goes_again}
 use Rattle.replay.proofs.run.Statement.{statement}
 use Rattle.replay.proofs.run.Tie as tie
 
@@ -15,7 +15,7 @@ abbrev decreases-loop : tie.decreases-loop
 decreases-loop trace out₀ ledger₀ read₀ written₀ out ledger read written = length trace - read
 
 loop-holds : tie.Need-loop-init invariant-loop decreases-loop
-loop-holds c = at-start _ _ _
+loop-holds c = at_start_lem _ _ _
 
 part-step-record-start : tie.Need-slice-bounds-step-record-start invariant-loop decreases-loop
 part-step-record-start c = omega (arith, c.loop.invariant.within)
@@ -37,7 +37,7 @@ turn : (s : tie.After-step-record invariant-loop decreases-loop)
 turn s = record { going = s.before.before.before.loop.invariant; stepped = s.step-record.ensures; kept = s.step-record.auto.1.1.0 }
 
 add_read : tie.Need-overflow-add-read invariant-loop decreases-loop
-add_read c = omega (arith, read-within (turn c.before.before.before.before.before.before) _ _ c.before.front.given.1)
+add_read c = omega (arith, read_within_lem (turn c.before.before.before.before.before.before) _ _ c.before.front.given.1)
 
 add-written : tie.Need-overflow-add-written invariant-loop decreases-loop
 add-written c = omega (arith, written-within (turn c.before.before.before.before.before.before) _ _ c.before.front.given.1)
@@ -46,10 +46,10 @@ loop-less : tie.Need-loop-smaller invariant-loop decreases-loop
 loop-less c =
     let t = turn c.before.before.before.before.before.before in
     let at = c.before.front.given.1 in
-    omega (arith, some_read t _ _ at, read-within t _ _ at)
+    omega (arith, some_read t _ _ at, read_within_lem t _ _ at)
 
 loop-again : tie.Need-loop-preserved invariant-loop decreases-loop
-loop-again c = goes-again (turn c.before.before.before.before.before.before) _ _ c.before.front.given.1
+loop-again c = goes_again (turn c.before.before.before.before.before.before) _ _ c.before.front.given.1
 
 returns : tie.Need-returns invariant-loop decreases-loop
 returns c = stops (turn c.before.before.before.before.before) c.before.match.keys2 c.Ending-at.ensures

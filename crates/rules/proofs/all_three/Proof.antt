@@ -19,5 +19,5 @@ returns-3 : tie.Need-returns-3
 unfolding conj
 returns-3 c = rw (not-false c.before.before.args.a c.before.if1.false, not-false c.before.before.args.b c.if2.false) (sym (and-true c.before.before.args.c))
 
-pub all-three-spec : {M : Type 1} → statement M
-all-three-spec = tie.close (tie.spec returns returns-2 returns-3)
+pub all_three_spec : {M : Type 1} → statement M
+all_three_spec = tie.close (tie.spec returns returns-2 returns-3)

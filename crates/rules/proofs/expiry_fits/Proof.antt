@@ -11,5 +11,5 @@ returns c = rw (eq-eqb c.before.args.expiry 0 (omega arith))
 returns-2 : tie.Need-returns-2
 returns-2 c = rw (ne_eqb c.before.args.expiry 0 (omega arith))
 
-pub expiry-fits-spec : {M : Type 1} → statement M
-expiry-fits-spec = tie.close (tie.spec returns returns-2)
+pub expiry_fits_spec : {M : Type 1} → statement M
+expiry_fits_spec = tie.close (tie.spec returns returns-2)

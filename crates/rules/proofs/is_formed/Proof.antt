@@ -2,7 +2,7 @@
 -- Assumes nothing.
 use borrow.Author.Rules.{rules}
 use Rattle.rules.specs.Lists.{conj}
-use Rattle.rules.specs.Table.{wellFormed}
+use Rattle.rules.specs.Table.{well_formed}
 use Rattle.rules.proofs.Typed.{length_none}
 use Rattle.rules.proofs.is_formed.Statement.{statement}
 use Rattle.rules.proofs.is_formed.Tie as tie
@@ -68,47 +68,47 @@ enum-told-4 : tie.Need-enum-told-4
 enum-told-4 c = search rules
 
 returns : tie.Need-returns
-unfolding wellFormed
+unfolding well_formed
 returns c = rw c.enum_told.given.1 (length_none c.before.before.before.args.list.now)
 
 returns-2 : tie.Need-returns-2
-unfolding wellFormed conj
+unfolding well_formed conj
 returns-2 c = rw (c.before.before.kind.given.1, ← length_none c.before.before.before.before.before.args.list.now) c.All-three.ensures
 
 returns-3 : tie.Need-returns-3
-unfolding wellFormed conj
+unfolding well_formed conj
 returns-3 c = rw (c.before.before.enum-told2.given.1, ← c.before.is-rising.ensures) c.all-three2.ensures
 
 returns-4 : tie.Need-returns-4
-unfolding wellFormed conj
+unfolding well_formed conj
 returns-4 c = rw (c.before.before.kind2.given.1, ← length_none c.before.before.before.before.before.args.list.now) c.all-three3.ensures
 
 returns-5 : tie.Need-returns-5
-unfolding wellFormed conj
+unfolding well_formed conj
 returns-5 c = rw (c.before.before.before.kind3.given.1, ← length_none c.before.before.before.before.before.before.args.list.now, ← c.before.expiry-fits.ensures) c.all-three4.ensures
 
 returns-6 : tie.Need-returns-6
-unfolding wellFormed conj
+unfolding well_formed conj
 returns-6 c = rw (c.before.before.before.kind4.given.1, ← length_none c.before.before.before.before.before.before.args.list.now, ← c.before.expiry-fits2.ensures) c.all-three5.ensures
 
 returns-7 : tie.Need-returns-7
-unfolding wellFormed conj
+unfolding well_formed conj
 returns-7 c = rw (c.before.before.kind5.given.1, ← length_none c.before.before.before.before.before.args.list.now) c.all-three6.ensures
 
 returns-8 : tie.Need-returns-8
-unfolding wellFormed
+unfolding well_formed
 returns-8 c = rw c.enum-told3.given.1 (length_none c.before.before.before.args.list.now)
 
 returns-9 : tie.Need-returns-9
-unfolding wellFormed conj
+unfolding well_formed conj
 returns-9 c = rw (c.before.before.kind6.given.1, ← length_none c.before.before.before.before.before.args.list.now) c.all-three7.ensures
 
 returns-10 : tie.Need-returns-10
-unfolding wellFormed
+unfolding well_formed
 returns-10 c = rw c.enum-told4.given.1 (length_none c.before.before.before.args.list.now)
 
-pub is-formed-spec : {M : Type 1} → statement M
-is-formed-spec =
+pub is_formed_spec : {M : Type 1} → statement M
+is_formed_spec =
     tie.close
     (tie.spec
     enum_told

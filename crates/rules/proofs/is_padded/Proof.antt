@@ -8,13 +8,13 @@ use lib.Dec.{eqb}
 use lib.ListN.{length, get_or, drop}
 use borrow.Author.Tests.{eq-eqb, ne_eqb}
 use Rattle.rules.specs.Lists.{all}
-use Rattle.rules.specs.Typed.{isPadded}
+use Rattle.rules.specs.Typed.{is_padded}
 use Rattle.rules.proofs.Typed.{all_from, all_end, padded-short, padded-from}
 use Rattle.rules.proofs.is_padded.Statement.{statement}
 use Rattle.rules.proofs.is_padded.Tie as tie
 
 abbrev invariant-loop : tie.invariant-loop
-invariant-loop count places i₀ i = (i ≤ length places) × (all (eqb 0) (drop i places) ≡ isPadded count places)
+invariant-loop count places i₀ i = (i ≤ length places) × (all (eqb 0) (drop i places) ≡ is_padded count places)
 
 abbrev decreases-loop : tie.decreases-loop
 decreases-loop count places i₀ i = length places - i
@@ -24,7 +24,7 @@ place c = get_or c.before.before.before.args.places.now c.before.loop.i 0
 
 -- whether the place at i is 0, and then the others, is what is asked
 place-next : (c : tie.In-loop invariant-loop decreases-loop)
-    → (eqb 0 (place c) && all (eqb 0) (drop (c.before.loop.i + 1) c.before.before.before.args.places.now)) ≡ isPadded c.before.before.before.args.count c.before.before.before.args.places.now
+    → (eqb 0 (place c) && all (eqb 0) (drop (c.before.loop.i + 1) c.before.before.before.args.places.now)) ≡ is_padded c.before.before.before.args.count c.before.before.before.args.places.now
 place-next c = sym (all_from (eqb 0) c.before.before.before.args.places.now c.before.loop.i (omega arith)) ∙ c.before.loop.invariant.1
 
 returns : tie.Need-returns invariant-loop decreases-loop
@@ -56,8 +56,8 @@ returns-3 c =
     let l = c.before.loop in
     rw (all_end (eqb 0) c.before.before.before.args.places.now l.i (omega arith)) at l.invariant.1
 
-pub is-padded-spec : {M : Type 1} → statement M
-is-padded-spec =
+pub is_padded_spec : {M : Type 1} → statement M
+is_padded_spec =
     tie.close
     (tie.spec
     invariant-loop

@@ -7,13 +7,13 @@ use native.Mathlib.Omega.{arith}
 use lib.Dec.{ltb}
 use lib.ListN.{length, get_or, drop}
 use borrow.Author.Tests.{lt-ltb, le-ltb}
-use Rattle.rules.specs.Lists.{risingAbove}
-use Rattle.rules.proofs.Typed.{rising-from, rising-end}
+use Rattle.rules.specs.Lists.{rising_above}
+use Rattle.rules.proofs.Typed.{rising-from, rising_end}
 use Rattle.rules.proofs.is_rising.Statement.{statement}
 use Rattle.rules.proofs.is_rising.Tie as tie
 
 abbrev invariant-loop : tie.invariant-loop
-invariant-loop list floor₀ i₀ floor i = (i ≤ length list) × (risingAbove floor (drop i list) ≡ risingAbove 0 list)
+invariant-loop list floor₀ i₀ floor i = (i ≤ length list) × (rising_above floor (drop i list) ≡ rising_above 0 list)
 
 abbrev decreases-loop : tie.decreases-loop
 decreases-loop list floor₀ i₀ floor i = length list - i
@@ -23,7 +23,7 @@ number c = get_or c.before.before.args.list.now c.before.loop.i 0
 
 -- whether the number at i is above the floor, and the others rise above it, is what is asked
 number-next : (c : tie.In-loop invariant-loop decreases-loop)
-    → (ltb c.before.loop.floor (number c) && risingAbove (number c) (drop (c.before.loop.i + 1) c.before.before.args.list.now)) ≡ risingAbove 0 c.before.before.args.list.now
+    → (ltb c.before.loop.floor (number c) && rising_above (number c) (drop (c.before.loop.i + 1) c.before.before.args.list.now)) ≡ rising_above 0 c.before.before.args.list.now
 number-next c = sym (rising-from c.before.loop.floor c.before.before.args.list.now c.before.loop.i (omega arith)) ∙ c.before.loop.invariant.1
 
 loop-holds : tie.Need-loop-init invariant-loop decreases-loop
@@ -50,10 +50,10 @@ loop-again c = (omega arith, rw (lt-ltb c.before.before.before.loop.floor (numbe
 returns-2 : tie.Need-returns-2 invariant-loop decreases-loop
 returns-2 c =
     let l = c.before.loop in
-    rw (rising-end l.floor c.before.before.args.list.now l.i (omega arith)) at l.invariant.1
+    rw (rising_end l.floor c.before.before.args.list.now l.i (omega arith)) at l.invariant.1
 
-pub is-rising-spec : {M : Type 1} → statement M
-is-rising-spec =
+pub is_rising_spec : {M : Type 1} → statement M
+is_rising_spec =
     tie.close
     (tie.spec
     invariant-loop

@@ -4,14 +4,14 @@ use mathlib.Core.Path.{◌≡◌, sym, ◌∙◌}
 use mathlib.Core.Bool.{true}
 use lib.Seq.{length-take-le}
 use borrow.Author.Tests.{not-true, not-false}
-use Rattle.rules.specs.Typed.{isPadded}
+use Rattle.rules.specs.Typed.{is_padded}
 use Rattle.rules.proofs.Typed.{padded-room}
 use borrow.Author.Rules.{rules}
 use Rattle.rules.proofs.is_well_formed.Statement.{statement}
 use Rattle.rules.proofs.is_well_formed.Tie as tie
 
 -- past the test the places say a list
-said : (c : tie.Else1) → isPadded c.before.before.before.before.before.args.step.list.count c.before.before.before.before.before.args.step.list.names ≡ true
+said : (c : tie.Else1) → is_padded c.before.before.before.before.before.args.step.list.count c.before.before.before.before.before.args.step.list.names ≡ true
 said c = sym c.before.is-padded.ensures ∙ not-false _ c.if1.false
 
 slice-aggregate-is-padded : tie.Need-slice-aggregate-is-padded
@@ -35,8 +35,8 @@ is-formed-requires c κs = search rules
 returns-2 : tie.Need-returns-2
 returns-2 c = rw (said c.before.before) c.is-formed.ensures
 
-pub is-well-formed-spec : {M : Type 1} → statement M
-is-well-formed-spec =
+pub is_well_formed_spec : {M : Type 1} → statement M
+is_well_formed_spec =
     tie.close
     (tie.spec
     slice-aggregate-is-padded

@@ -10,5 +10,5 @@ returns c = rw (ne_eqb c.before.args.n 0 (λ z. omega (arith, z, c.if1.true)))
 returns-2 : tie.Need-returns-2
 returns-2 c = rw (eq-eqb c.before.args.n 0 (omega (arith, c.if1.false)))
 
-pub is-rate-spec : {M : Type 1} → statement M
-is-rate-spec = tie.close (tie.spec returns returns-2)
+pub is_rate_spec : {M : Type 1} → statement M
+is_rate_spec = tie.close (tie.spec returns returns-2)

@@ -11,8 +11,8 @@ returns c = rw (sym c.before.is-formed.ensures ∙ not-true _ c.if1.true)
 returns-2 : tie.Need-returns-2
 returns-2 c = rw (sym c.before.is-formed.ensures ∙ not-false _ c.if1.false)
 
-pub sheet-from-spec : {M : Type 1} → statement M
-sheet-from-spec =
+pub sheet_from_spec : {M : Type 1} → statement M
+sheet_from_spec =
     tie.close
     (tie.spec
     (λ c. search rules)

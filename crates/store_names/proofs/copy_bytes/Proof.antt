@@ -47,8 +47,8 @@ returns c =
     let l = c.before.loop in
     sym (take_all l.i l.to c.loop-test.false) ∙ l.invariant.2 ∙ take_all l.i c.before.before.args.from.now (omega arith)
 
-pub copy-bytes-spec : {M : Type 1} → statement M
-copy-bytes-spec =
+pub copy_bytes_spec : {M : Type 1} → statement M
+copy_bytes_spec =
     tie.close
     (tie.spec
     invariant-loop

@@ -54,8 +54,8 @@ returns c =
     let none : c.before.loop.i ≡ 0 = omega arith in
     rw none at c.before.loop.invariant.2
 
-pub put-digits-spec : {M : Type 1} → statement M
-put-digits-spec =
+pub put_digits_spec : {M : Type 1} → statement M
+put_digits_spec =
     tie.close
     (tie.spec
     invariant-loop

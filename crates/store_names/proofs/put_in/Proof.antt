@@ -8,9 +8,9 @@ use borrow.Author.Rules.{rules}
 use lib.ListN.{length, length-append}
 use lib.Seq.{length-take-le}
 use Rattle.store_names.specs.declared.NameWrite.TheVariants.{Full}
-use Rattle.store_names.specs.Names.{nameDigits, putFirst}
+use Rattle.store_names.specs.Names.{name_digits, put_first}
 use Rattle.store_names.specs.Decimal.{digits}
-use Rattle.store_names.proofs.Bytes.{first-full, first-parts, part_length}
+use Rattle.store_names.proofs.Bytes.{first-full, first_parts, part_length}
 use Rattle.store_names.proofs.Digits.{length_digits}
 use Rattle.store_names.proofs.put_in.Statement.{statement}
 use Rattle.store_names.proofs.put_in.Tie as tie
@@ -19,8 +19,8 @@ add-before : tie.Need-overflow-add-before
 add-before c = search rules
 
 -- the room is short
-short : (folder suffix out : List ℕ) (n : ℕ) → length out < length folder + nameDigits + length suffix → putFirst (folder ++ digits nameDigits n ++ suffix) out ≡ record { answer = Full; buffer = out }
-short folder suffix out n h = first-full (folder ++ digits nameDigits n ++ suffix) out (simp (length-append, length_digits) h)
+short : (folder suffix out : List ℕ) (n : ℕ) → length out < length folder + name_digits + length suffix → put_first (folder ++ digits name_digits n ++ suffix) out ≡ record { answer = Full; buffer = out }
+short folder suffix out n h = first-full (folder ++ digits name_digits n ++ suffix) out (simp (length-append, length_digits) h)
 
 returns : tie.Need-returns
 returns c =
@@ -80,13 +80,13 @@ returns-3 : tie.Need-returns-3
 returns-3 c =
     let a = c.before.before.before.before.before.before.before.before.before.before.before.before.before.before.before.before.before.args in
     let f = length a.folder.now in
-    let room = part_length a.folder.now a.out.now nameDigits (omega arith) in
+    let room = part_length a.folder.now a.out.now name_digits (omega arith) in
     let copied = c.before.before.before.before.before.before.before.before.before.before.copy-bytes.ensures in
     let put = c.before.before.before.before.before.before.put-digits.ensures in
-    rw (c.before.before.copy-bytes2.ensures, put, copied, room) (first-parts a.folder.now (digits nameDigits a.n) a.suffix.now a.out.now f (f + nameDigits) (f + nameDigits + length a.suffix.now) refl (ap (λ (k : ℕ). f + k) (length_digits nameDigits a.n)) refl (omega arith) _ refl)
+    rw (c.before.before.copy-bytes2.ensures, put, copied, room) (first_parts a.folder.now (digits name_digits a.n) a.suffix.now a.out.now f (f + name_digits) (f + name_digits + length a.suffix.now) refl (ap (λ (k : ℕ). f + k) (length_digits name_digits a.n)) refl (omega arith) _ refl)
 
-pub put-in-spec : {M : Type 1} → statement M
-put-in-spec =
+pub put_in_spec : {M : Type 1} → statement M
+put_in_spec =
     tie.close
     (tie.spec
     add-before

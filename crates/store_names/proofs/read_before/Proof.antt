@@ -10,20 +10,20 @@ use borrow.Author.Tests.{lt-leb, le-leb, not-true, not-false}
 use lib.Dec.{leb}
 use lib.ListN.{length, drop, length-drop}
 use lib.Seq.{take_all, length-take-le}
-use Rattle.store_names.specs.Names.{numberBefore, sameBytes, nameDigits}
+use Rattle.store_names.specs.Names.{number_before, same_bytes, name_digits}
 use Rattle.store_names.proofs.read_before.Statement.{statement}
 use Rattle.store_names.proofs.read_before.Tie as tie
 
 -- what is compared with the suffix goes to the end
-tail : (c : tie.After-same-bytes) → c.same_bytes.result ≡ sameBytes (drop nameDigits c.before.before.before.before.before.args.name.now) c.before.before.before.before.before.args.suffix.now
+tail : (c : tie.After-same-bytes) → c.same_bytes.result ≡ same_bytes (drop name_digits c.before.before.before.before.before.args.name.now) c.before.before.before.before.before.args.suffix.now
 tail c =
     let a = c.before.before.before.before.before.args in
-    let all = take_all (length a.name.now - nameDigits) (drop nameDigits a.name.now) (omega (arith, length-drop nameDigits a.name.now)) in
-    c.same_bytes.ensures ∙ ap (λ (l : List ℕ). sameBytes l a.suffix.now) all
+    let all = take_all (length a.name.now - name_digits) (drop name_digits a.name.now) (omega (arith, length-drop name_digits a.name.now)) in
+    c.same_bytes.ensures ∙ ap (λ (l : List ℕ). same_bytes l a.suffix.now) all
 
 returns : tie.Need-returns
-unfolding numberBefore
-returns c = rw (lt-leb nameDigits (length c.before.before.before.args.name.now) c.if1.true)
+unfolding number_before
+returns c = rw (lt-leb name_digits (length c.before.before.before.args.name.now) c.if1.true)
 
 sub-same-bytes : tie.Need-overflow-sub-same-bytes
 sub-same-bytes c = search rules
@@ -38,24 +38,24 @@ same-bytes-requires : tie.Need-same-bytes-requires
 same-bytes-requires c κs = search rules
 
 returns-2 : tie.Need-returns-2
-unfolding numberBefore
+unfolding number_before
 returns-2 c =
-    rw (sym (tail c.before) ∙ not-true _ c.if2.true, and-false (leb nameDigits (length c.before.before.before.before.before.before.args.name.now)))
+    rw (sym (tail c.before) ∙ not-true _ c.if2.true, and-false (leb name_digits (length c.before.before.before.before.before.before.args.name.now)))
 
 slice-aggregate-read-digits : tie.Need-slice-aggregate-read-digits
-slice-aggregate-read-digits c = sym (length-take-le nameDigits c.before.before.before.before.before.before.before.args.name.now (omega arith))
+slice-aggregate-read-digits c = sym (length-take-le name_digits c.before.before.before.before.before.before.before.args.name.now (omega arith))
 
 read-digits-requires : tie.Need-read-digits-requires
 read-digits-requires c κs = search rules
 
 returns-3 : tie.Need-returns-3
-unfolding numberBefore
+unfolding number_before
 returns-3 c =
     let a = c.before.before.before.before.before.before.before.before.args in
-    rw (le-leb nameDigits (length a.name.now) (omega arith), sym (tail c.before.before.before) ∙ not-false _ c.before.before.if2.false) c.read-digits.ensures
+    rw (le-leb name_digits (length a.name.now) (omega arith), sym (tail c.before.before.before) ∙ not-false _ c.before.before.if2.false) c.read-digits.ensures
 
-pub read-before-spec : {M : Type 1} → statement M
-read-before-spec =
+pub read_before_spec : {M : Type 1} → statement M
+read_before_spec =
     tie.close
     (tie.spec
     returns

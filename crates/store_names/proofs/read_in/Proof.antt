@@ -8,7 +8,7 @@ use borrow.Author.Rules.{rules}
 use borrow.Author.Tests.{not-true, not-false}
 use lib.ListN.{length, take, drop, length-take, length-drop}
 use lib.Seq.{take_all, length-take-le}
-use Rattle.store_names.specs.Names.{number_in, numberBefore}
+use Rattle.store_names.specs.Names.{number_in, number_before}
 use Rattle.store_names.proofs.Bytes.{same_not}
 use Rattle.store_names.proofs.read_in.Statement.{statement}
 use Rattle.store_names.proofs.read_in.Tie as tie
@@ -49,10 +49,10 @@ returns-3 c =
     let a = c.before.before.before.before.before.before.before.before.before.args in
     let behind = drop (length a.folder.now) a.name.now in
     let all = take_all (length a.name.now - length a.folder.now) behind (omega (arith, length-drop (length a.folder.now) a.name.now)) in
-    rw (sym c.before.before.before.same_bytes.ensures ∙ not-false _ c.before.before.if2.false) (c.read-before.ensures ∙ ap (λ (l : List ℕ). numberBefore a.suffix.now l) all)
+    rw (sym c.before.before.before.same_bytes.ensures ∙ not-false _ c.before.before.if2.false) (c.read-before.ensures ∙ ap (λ (l : List ℕ). number_before a.suffix.now l) all)
 
-pub read-in-spec : {M : Type 1} → statement M
-read-in-spec =
+pub read_in_spec : {M : Type 1} → statement M
+read_in_spec =
     tie.close
     (tie.spec
     returns

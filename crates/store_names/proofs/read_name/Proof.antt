@@ -4,15 +4,15 @@ use mathlib.Core.Path.{◌≡◌, sym, ◌∙◌}
 use borrow.Author.Rules.{rules}
 use borrow.Author.Tests.{ne_eqb, eq-eqb}
 use Rattle.store_names.specs.declared.Decimal.TheVariants.{Number, Bad}
-use Rattle.store_names.specs.Names.{manifestFolder, objectFolder, manifestSuffix, objectSuffix, number_in, decode}
+use Rattle.store_names.specs.Names.{manifest_folder, object_folder, manifest_suffix, object_suffix, number_in, decode}
 use Rattle.store_names.proofs.read_name.Statement.{statement}
 use Rattle.store_names.proofs.read_name.Tie as tie
 
 -- what each reading answered
-no-manifest : (c : tie.After-enum-told) → number_in manifestFolder manifestSuffix c.before.before.before.before.before.before.args.name.now ≡ Bad
-no-manifest c = sym c.before.before.read-in.ensures ∙ c.enum_told.given.1
+no_manifest_lem : (c : tie.After-enum-told) → number_in manifest_folder manifest_suffix c.before.before.before.before.before.before.args.name.now ≡ Bad
+no_manifest_lem c = sym c.before.before.read-in.ensures ∙ c.enum_told.given.1
 
-object : (c : tie.After-object) → number_in objectFolder objectSuffix c.before.before.before.before.before.before.before.before.before.before.before.args.name.now ≡ Number c.object.given.0.0
+object : (c : tie.After-object) → number_in object_folder object_suffix c.before.before.before.before.before.before.before.before.before.before.before.args.name.now ≡ Number c.object.given.0.0
 object c = sym c.before.before.read-in2.ensures ∙ c.object.given.1
 
 slice-aggregate-read-in : tie.Need-slice-aggregate-read-in
@@ -51,18 +51,18 @@ enum-told-2 c = search rules
 
 returns-2 : tie.Need-returns-2
 unfolding decode
-returns-2 c = rw (no-manifest c.before.before.before.before.before, sym c.before.before.read-in2.ensures ∙ c.enum-told2.given.1)
+returns-2 c = rw (no_manifest_lem c.before.before.before.before.before, sym c.before.before.read-in2.ensures ∙ c.enum-told2.given.1)
 
 returns-3 : tie.Need-returns-3
 unfolding decode
-returns-3 c = rw (no-manifest c.before.before.before.before.before.before.before, object c.before.before, eq-eqb _ 0 c.if1.true)
+returns-3 c = rw (no_manifest_lem c.before.before.before.before.before.before.before, object c.before.before, eq-eqb _ 0 c.if1.true)
 
 returns-4 : tie.Need-returns-4
 unfolding decode
-returns-4 c = rw (no-manifest c.before.before.before.before.before.before.before, object c.before.before, ne_eqb _ 0 c.if1.false)
+returns-4 c = rw (no_manifest_lem c.before.before.before.before.before.before.before, object c.before.before, ne_eqb _ 0 c.if1.false)
 
-pub read-name-spec : {M : Type 1} → statement M
-read-name-spec =
+pub read_name_spec : {M : Type 1} → statement M
+read_name_spec =
     tie.close
     (tie.spec
     slice-aggregate-read-in

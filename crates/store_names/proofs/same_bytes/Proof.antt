@@ -8,13 +8,13 @@ use native.Mathlib.Omega.{arith}
 use borrow.Author.Tests.{eq-eqb}
 use lib.ListN.{length, get_or, drop, drop_of_length-le}
 use lib.Seq.{drop-cons}
-use Rattle.store_names.specs.Names.{sameBytes}
+use Rattle.store_names.specs.Names.{same_bytes}
 use Rattle.store_names.proofs.Bytes.{same_not}
 use Rattle.store_names.proofs.same_bytes.Statement.{statement}
 use Rattle.store_names.proofs.same_bytes.Tie as tie
 
 abbrev invariant-loop : tie.invariant-loop
-invariant-loop a b i₀ i = (i ≤ length a) × (sameBytes (drop i a) (drop i b) ≡ sameBytes a b)
+invariant-loop a b i₀ i = (i ≤ length a) × (same_bytes (drop i a) (drop i b) ≡ same_bytes a b)
 
 abbrev decreases-loop : tie.decreases-loop
 decreases-loop a b i₀ i = length a - i
@@ -41,21 +41,21 @@ loop-less : tie.Need-loop-smaller invariant-loop decreases-loop
 loop-less c = omega arith
 
 loop-again : tie.Need-loop-preserved invariant-loop decreases-loop
-unfolding sameBytes
+unfolding same_bytes
 loop-again c =
     let l = c.before.before.before.before.loop in
     let a = c.before.before.before.before.before.before.args in
     (omega arith, rw add-one (rw (drop-cons a.a.now l.i 0 (omega arith), drop-cons a.b.now l.i 0 (omega arith), eq-eqb _ _ c.if2.false) at l.invariant.1))
 
 returns-3 : tie.Need-returns-3 invariant-loop decreases-loop
-unfolding sameBytes
+unfolding same_bytes
 returns-3 c =
     let a = c.before.before.before.args in
     let i = c.before.loop.i in
     rw (drop_of_length-le a.a.now {i = i} (omega arith), drop_of_length-le a.b.now {i = i} (omega arith)) at c.before.loop.invariant.1
 
-pub same-bytes-spec : {M : Type 1} → statement M
-same-bytes-spec =
+pub same_bytes_spec : {M : Type 1} → statement M
+same_bytes_spec =
     tie.close
     (tie.spec
     invariant-loop

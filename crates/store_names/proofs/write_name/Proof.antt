@@ -54,8 +54,8 @@ returns-3 c =
     let n = c.before.before.before.before.before.before.before.before.name2.given in
     rw (n.1, ne_eqb n.0.0 0 c.before.before.before.before.before.before.if1.false, le-leb n.0.0 largest (omega (arith, c.before.before.before.before.before.before.before.known-told2.given))) c.before.before.put-in2.ensures
 
-pub write-name-spec : {M : Type 1} → statement M
-write-name-spec =
+pub write_name_spec : {M : Type 1} → statement M
+write_name_spec =
     tie.close
     (tie.spec
     enum-known-name

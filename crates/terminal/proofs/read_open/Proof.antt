@@ -14,8 +14,8 @@ invariant-loop file room₀ done₀ room done = (length room ≡ length room₀)
 abbrev decreases-loop : tie.decreases-loop
 decreases-loop file room₀ done₀ room done = length room - done
 
-pub read-open-spec : {M : Type 1} → statement M
-read-open-spec =
+pub read_open_spec : {M : Type 1} → statement M
+read_open_spec =
     tie.close
     (tie.spec
     invariant-loop

@@ -19,8 +19,8 @@ returns-4 c = rw c.enum-told4.given.1
 returns-5 : tie.Need-returns-5
 returns-5 c = rw c.enum-told5.given.1
 
-pub answer-from-spec : {M : Type 1} → statement M
-answer-from-spec =
+pub answer_from_spec : {M : Type 1} → statement M
+answer_from_spec =
     tie.close
     (tie.spec
     (λ c. search rules)

@@ -11,5 +11,5 @@ returns c = rw (eq-eqb c.before.args.n 0 c.if1.true)
 returns-2 : tie.Need-returns-2
 returns-2 c = rw (ne_eqb c.before.args.n 0 c.if1.false)
 
-pub code-alone-spec : {M : Type 1} → statement M
-code-alone-spec = tie.close (tie.spec returns (λ c. search rules) returns-2)
+pub code_alone_spec : {M : Type 1} → statement M
+code_alone_spec = tie.close (tie.spec returns (λ c. search rules) returns-2)

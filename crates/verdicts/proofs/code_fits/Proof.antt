@@ -16,8 +16,8 @@ returns-5 c = rw c.enum-told5.given.1
 returns-6 : tie.Need-returns-6
 returns-6 c = rw c.enum-told6.given.1
 
-pub code-fits-spec : {M : Type 1} → statement M
-code-fits-spec =
+pub code_fits_spec : {M : Type 1} → statement M
+code_fits_spec =
     tie.close
     (tie.spec
     (λ c. search rules)

@@ -17,5 +17,5 @@ returns-2 : tie.Need-returns-2
 unfolding conj
 returns-2 c = rw (sym c.before.is-rising.ensures ∙ not-false c.before.is-rising.result c.if1.false, and-true (leb (length c.before.before.before.args.numbers.now) c.before.before.before.args.most))
 
-pub is-rising-list-spec : {M : Type 1} → statement M
-is-rising-list-spec = tie.close (tie.spec (λ c κs. tt) returns returns-2)
+pub is_rising_list_spec : {M : Type 1} → statement M
+is_rising_list_spec = tie.close (tie.spec (λ c κs. tt) returns returns-2)

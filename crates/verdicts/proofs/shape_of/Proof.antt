@@ -16,8 +16,8 @@ use Rattle.verdicts.proofs.shape_of.Statement.{statement}
 use Rattle.verdicts.proofs.shape_of.Tie as tie
 
 -- the field behind the code goes to the end
-ends : (c : tie.After-is-whole) → eqb (10 + claimed (drop 7 c.before.before.before.before.before.before.before.args.bytes.now)) (length c.before.before.before.before.before.before.before.args.bytes.now) ≡ c.is-whole.result
-ends c = sym (c.is-whole.ensures ∙ ap is_whole (tail 7 c.before.before.before.before.before.before.before.args.bytes.now) ∙ whole-behind 7 c.before.before.before.before.before.before.before.args.bytes.now (omega arith))
+ends : (c : tie.After-is-whole) → eqb (10 + claimed (drop 7 c.before.before.before.before.before.before.before.args.bytes.now)) (length c.before.before.before.before.before.before.before.args.bytes.now) ≡ c.is_whole_lem.result
+ends c = sym (c.is_whole_lem.ensures ∙ ap is_whole (tail 7 c.before.before.before.before.before.before.before.args.bytes.now) ∙ whole-behind 7 c.before.before.before.before.before.before.before.args.bytes.now (omega arith))
 
 returns : tie.Need-returns
 unfolding shape_of
@@ -47,8 +47,8 @@ returns-5 c =
     let bs = c.before.before.before.before.before.before.before.before.args.bytes.now in
     rw (lt-leb (length bs) 7 c.before.before.before.before.before.before.if1.false, ne_eqb (get_or bs 7 0) 3 c.before.before.before.before.if2.false, ne_eqb (get_or bs 7 0) 5 c.before.before.before.if3.false, ends c.before ∙ c.if4.false)
 
-pub shape-of-spec : {M : Type 1} → statement M
-shape-of-spec =
+pub shape_of_spec : {M : Type 1} → statement M
+shape_of_spec =
     tie.close
     (tie.spec
     returns

@@ -23,8 +23,8 @@ returns-5 c = rw c.before.before.before.before.answer4.given.1 (c.two2.ensures �
 returns-6 : tie.Need-returns-6
 returns-6 c = rw c.before.before.before.enum-told2.given.1 (c.two3.ensures ∙ rw (c.before.list2.ensures, c.before.before.code6.ensures))
 
-pub verdict-fields-spec : {M : Type 1} → statement M
-verdict-fields-spec =
+pub verdict_fields_spec : {M : Type 1} → statement M
+verdict_fields_spec =
     tie.close
     (tie.spec
     (λ c. search rules)

@@ -9,16 +9,16 @@ use lib.Seq.{length-take-le}
 use borrow.Author.Rules.{rules}
 use borrow.Author.Tests.{not-true, not-false}
 use Rattle.rules.specs.Limits.{limits}
-use Rattle.rules.specs.Typed.{isPadded, objectsOf}
+use Rattle.rules.specs.Typed.{is_padded, objects_of}
 use Rattle.rules.proofs.Typed.{padded-room}
-use Rattle.verdicts.specs.Verdicts.{verdictTag, verdictFields}
-use Rattle.records.proofs.Tables.{record-written}
-use Rattle.verdicts.proofs.Tables.{verdict-placed}
+use Rattle.verdicts.specs.Verdicts.{verdict_tag, verdict_fields}
+use Rattle.records.proofs.Tables.{record_written}
+use Rattle.verdicts.proofs.Tables.{verdict_placed}
 use Rattle.verdicts.proofs.write_verdict.Statement.{statement}
 use Rattle.verdicts.proofs.write_verdict.Tie as tie
 
 -- past the first test the places say a list
-said : (c : tie.Else1) → isPadded c.before.before.before.before.before.before.args.verdict.list.count c.before.before.before.before.before.before.args.verdict.list.objects ≡ true
+said : (c : tie.Else1) → is_padded c.before.before.before.before.before.before.args.verdict.list.count c.before.before.before.before.before.before.args.verdict.list.objects ≡ true
 said c = sym c.before.is-padded.ensures ∙ not-false _ c.if1.false
 
 room : (c : tie.Else1) → c.before.before.before.before.before.before.args.verdict.list.count ≤ length c.before.before.before.before.before.before.args.verdict.list.objects
@@ -46,17 +46,17 @@ write-record-requires : tie.Need-write-record-requires
 write-record-requires c κs =
     let a = c.before.before.before.before.before.before.before.before.before.before.before.before.args in
     let long : length a.verdict.list.objects ≡ limits.places = search rules in
-    (rw c.before.before.verdict-fields.ensures (verdict-placed a.verdict.answer), simp length-take (omega arith))
+    (rw c.before.before.verdict-fields.ensures (verdict_placed a.verdict.answer), simp length-take (omega arith))
 
 returns-3 : tie.Need-returns-3
 returns-3 c =
     let a = c.before.before.before.before.before.before.before.before.before.before.before.before.before.before.before.args in
     rw (said c.before.before.before.before.before.before.before.before.before, sym c.before.before.before.before.before.before.before.is-formed.ensures ∙ not-false _ c.before.before.before.before.before.before.if2.false)
-    (record-written verdictTag verdictTag c.before.before.before.before.before.verdict-fields.result (verdictFields a.verdict.answer) (objectsOf a.verdict.list) a.out.now _
+    (record_written verdict_tag verdict_tag c.before.before.before.before.before.verdict-fields.result (verdict_fields a.verdict.answer) (objects_of a.verdict.list) a.out.now _
     refl c.before.before.before.before.before.verdict-fields.ensures c.before.before.write-record.ensures)
 
-pub write-verdict-spec : {M : Type 1} → statement M
-write-verdict-spec =
+pub write_verdict_spec : {M : Type 1} → statement M
+write_verdict_spec =
     tie.close
     (tie.spec
     (λ c. search rules)

@@ -40,5 +40,5 @@ returns-8 c =
     let r = c.match.rest in
     simp (ne_eqb _ _ r.0.0.0.0.0.1, ne_eqb _ _ r.0.0.0.0.1, ne_eqb _ _ r.0.0.0.1, ne_eqb _ _ r.0.0.1, ne_eqb _ _ r.0.1, ne_eqb _ _ r.1)
 
-pub answer-of-spec : {M : Type 1} → statement M
-answer-of-spec = tie.close (tie.spec returns (λ c. search rules) returns-2 returns-3 returns-4 returns-5 returns-6 returns-7 returns-8)
+pub answer_of_spec : {M : Type 1} → statement M
+answer_of_spec = tie.close (tie.spec returns (λ c. search rules) returns-2 returns-3 returns-4 returns-5 returns-6 returns-7 returns-8)

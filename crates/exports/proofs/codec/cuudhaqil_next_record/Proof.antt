@@ -14,8 +14,8 @@ returns-2 c = rw (sym c.before.before.next-record.ensures ∙ c.enum-told2.given
 returns-3 : tie.Need-returns-3
 returns-3 c = rw (sym c.before.before.before.next-record.ensures ∙ c.before.n.given.1)
 
-pub cuudhaqil-next-record-spec : {M : Type 1} → statement M
-cuudhaqil-next-record-spec =
+pub cuudhaqil_next_record_spec : {M : Type 1} → statement M
+cuudhaqil_next_record_spec =
     tie.close
     (tie.spec
     (λ c κs. tt)

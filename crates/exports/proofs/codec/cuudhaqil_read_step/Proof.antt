@@ -6,25 +6,25 @@ use native.Mathlib.Omega.{arith}
 use lib.ListN.{length}
 use borrow.Author.Tests.{lt-ltb, le-ltb}
 use Rattle.rules.specs.Limits.{limits}
-use Rattle.exports.specs.Codec.{stepSize, read_step}
+use Rattle.exports.specs.Codec.{step_size, read_step}
 use Rattle.exports.proofs.codec.cuudhaqil_read_step.Statement.{statement}
 use Rattle.exports.proofs.codec.cuudhaqil_read_step.Tie as tie
 
 returns : tie.Need-returns
 unfolding read_step
-returns c = rw (lt-ltb (length c.before.before.before.before.args.numbers.now) stepSize c.if1.true)
+returns c = rw (lt-ltb (length c.before.before.before.before.args.numbers.now) step_size c.if1.true)
 
 returns-2 : tie.Need-returns-2
 unfolding read_step
 returns-2 c =
     let a = c.before.before.before.before.before.args in
-    rw (le-ltb (length a.numbers.now) stepSize c.before.if1.false, lt-ltb (length a.list.now) limits.names c.if2.true)
+    rw (le-ltb (length a.numbers.now) step_size c.before.if1.false, lt-ltb (length a.list.now) limits.names c.if2.true)
 
 returns-3 : tie.Need-returns-3
 unfolding read_step
 returns-3 c =
     let a = c.before.before.before.before.before.before.before.before.args in
-    rw (le-ltb (length a.numbers.now) stepSize c.before.before.before.before.if1.false, le-ltb (length a.list.now) limits.names c.before.before.before.if2.false, sym c.before.before.Read-step.ensures, c.enum-told2.given.1)
+    rw (le-ltb (length a.numbers.now) step_size c.before.before.before.before.if1.false, le-ltb (length a.list.now) limits.names c.before.before.before.if2.false, sym c.before.before.Read-step.ensures, c.enum-told2.given.1)
 
 fill-requires-2 : tie.Need-fill-requires-2
 fill-requires-2 c κs =
@@ -35,10 +35,10 @@ returns-4 : tie.Need-returns-4
 unfolding read_step
 returns-4 c =
     let a = c.before.before.before.before.before.before.before.before.before.before.before.before.before.before.before.before.before.before.before.before.before.before.args in
-    rw (le-ltb (length a.numbers.now) stepSize c.before.before.before.before.before.before.before.before.before.before.before.before.before.before.before.before.before.before.if1.false, le-ltb (length a.list.now) limits.names c.before.before.before.before.before.before.before.before.before.before.before.before.before.before.before.before.before.if2.false, sym c.before.before.before.before.before.before.before.before.before.before.before.before.before.before.before.before.Read-step.ensures, c.before.before.before.before.before.before.before.before.before.before.before.before.before.before.enum_told.given.1) (rw (c.before.before.before.before.before.before.before.before.fill.ensures, c.before.before.fill2.ensures, c.before.before.before.before.before.before.before.before.before.before.before.step-numbers.ensures))
+    rw (le-ltb (length a.numbers.now) step_size c.before.before.before.before.before.before.before.before.before.before.before.before.before.before.before.before.before.before.if1.false, le-ltb (length a.list.now) limits.names c.before.before.before.before.before.before.before.before.before.before.before.before.before.before.before.before.before.if2.false, sym c.before.before.before.before.before.before.before.before.before.before.before.before.before.before.before.before.Read-step.ensures, c.before.before.before.before.before.before.before.before.before.before.before.before.before.before.enum_told.given.1) (rw (c.before.before.before.before.before.before.before.before.fill.ensures, c.before.before.fill2.ensures, c.before.before.before.before.before.before.before.before.before.before.before.step-numbers.ensures))
 
-pub cuudhaqil-read-step-spec : {M : Type 1} → statement M
-cuudhaqil-read-step-spec =
+pub cuudhaqil_read_step_spec : {M : Type 1} → statement M
+cuudhaqil_read_step_spec =
     tie.close
     (tie.spec
     returns

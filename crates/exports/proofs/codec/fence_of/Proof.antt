@@ -13,5 +13,5 @@ returns-2 c = rw (ne_eqb c.before.before.args.role 0 c.before.if1.false, eq-eqb 
 returns-3 : tie.Need-returns-3
 returns-3 c = rw (ne_eqb c.before.before.args.role 0 c.before.if1.false, ne_eqb c.before.before.args.role 1 c.if2.false)
 
-pub fence-of-spec : {M : Type 1} → statement M
-fence-of-spec = tie.close (tie.spec returns returns-2 returns-3)
+pub fence_of_spec : {M : Type 1} → statement M
+fence_of_spec = tie.close (tie.spec returns returns-2 returns-3)

@@ -54,8 +54,8 @@ returns-11 c =
     let n = get_or c.before.before.before.before.before.before.before.before.before.before.before.args.v.now 0 0 in
     rw (ne_eqb n 0 r.0.0.0.0.0.0.0.0.0.1, ne_eqb n 1 r.0.0.0.0.0.0.0.0.1, ne_eqb n 2 r.0.0.0.0.0.0.0.1, ne_eqb n 3 r.0.0.0.0.0.0.1, ne_eqb n 4 r.0.0.0.0.0.1, ne_eqb n 5 r.0.0.0.0.1, ne_eqb n 6 r.0.0.0.1, ne_eqb n 7 r.0.0.1, ne_eqb n 8 r.0.1, ne_eqb n 9 r.1)
 
-pub kind-of-spec : {M : Type 1} → statement M
-kind-of-spec =
+pub kind_of_spec : {M : Type 1} → statement M
+kind_of_spec =
     tie.close
     (tie.spec
     (λ c. search rules)

@@ -11,5 +11,5 @@ returns c = rw (lt-ltb 65535 c.before.args.money c.if1.true)
 returns-2 : tie.Need-returns-2
 returns-2 c = rw (le-ltb 65535 c.before.args.money c.if1.false)
 
-pub look-of-spec : {M : Type 1} → statement M
-look-of-spec = tie.close (tie.spec returns (λ c. search rules) returns-2)
+pub look_of_spec : {M : Type 1} → statement M
+look_of_spec = tie.close (tie.spec returns (λ c. search rules) returns-2)

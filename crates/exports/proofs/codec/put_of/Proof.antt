@@ -17,5 +17,5 @@ returns-3 c = rw (le-ltb 65535 c.before.before.before.args.money c.before.before
 returns-4 : tie.Need-returns-4
 returns-4 c = rw (le-ltb 65535 c.before.before.before.args.money c.before.before.if1.false, ne_eqb c.before.before.before.args.role 0 c.before.if2.false, ne_eqb c.before.before.before.args.role 1 c.if3.false)
 
-pub put-of-spec : {M : Type 1} → statement M
-put-of-spec = tie.close (tie.spec returns (λ c. search rules) returns-2 returns-3 returns-4)
+pub put_of_spec : {M : Type 1} → statement M
+put_of_spec = tie.close (tie.spec returns (λ c. search rules) returns-2 returns-3 returns-4)

@@ -5,7 +5,7 @@ use Rattle.exports.proofs.codec.step_numbers.Statement.{statement}
 use Rattle.exports.proofs.codec.step_numbers.Tie as tie
 
 returns : tie.Need-returns
-returns c = rw (c.before.before.kind.given.1, c.role-number.ensures)
+returns c = rw (c.before.before.kind.given.1, c.role_number_lem.ensures)
 
 returns-2 : tie.Need-returns-2
 returns-2 c = rw (c.before.before.kind2.given.1, c.role-number2.ensures)
@@ -34,8 +34,8 @@ returns-9 c = rw c.before.kind9.given.1
 returns-10 : tie.Need-returns-10
 returns-10 c = rw c.enum_told.given.1
 
-pub step-numbers-spec : {M : Type 1} → statement M
-step-numbers-spec =
+pub step_numbers_spec : {M : Type 1} → statement M
+step_numbers_spec =
     tie.close
     (tie.spec
     (λ c. search rules)

@@ -22,8 +22,8 @@ returns-5 c = rw c.before.answer4.given.1
 returns-6 : tie.Need-returns-6
 returns-6 c = rw c.enum-told2.given.1
 
-pub verdict-numbers-spec : {M : Type 1} → statement M
-verdict-numbers-spec =
+pub verdict_numbers_spec : {M : Type 1} → statement M
+verdict_numbers_spec =
     tie.close
     (tie.spec
     (λ c. search rules)

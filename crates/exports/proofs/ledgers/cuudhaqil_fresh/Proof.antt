@@ -7,8 +7,8 @@ use borrow.Author.Rules.{rules}
 use borrow.Author.Tests.{lt-ltb, le-ltb}
 use borrow.Rule.Slice.PartMut.{mid_len}
 use Rattle.ledger.specs.Ledger.{lay}
-use Rattle.rules.specs.State.{fresh as freshState}
-use Rattle.ledger_numbers.specs.Numbers.{ledgerSize, ledgerNumbers}
+use Rattle.rules.specs.State.{fresh as fresh_state}
+use Rattle.ledger_numbers.specs.Numbers.{ledger_size, ledger_numbers}
 use Rattle.exports.specs.Ledgers.{fresh}
 use Rattle.ledger_numbers.proofs.Places.{over-lent}
 use Rattle.exports.proofs.ledgers.cuudhaqil_fresh.Statement.{statement}
@@ -16,17 +16,17 @@ use Rattle.exports.proofs.ledgers.cuudhaqil_fresh.Tie as tie
 
 returns : tie.Need-returns
 unfolding fresh
-returns c = rw (lt-ltb (length c.before.before.args.numbers.now) ledgerSize c.if1.true)
+returns c = rw (lt-ltb (length c.before.before.args.numbers.now) ledger_size c.if1.true)
 
 returns-2 : tie.Need-returns-2
 unfolding fresh
 returns-2 c =
     let to = c.before.before.before.before.before.before.before.args.numbers.now in
     let put = c.before.before.put-ledger in
-    rw (le-ltb (length to) ledgerSize c.before.before.before.before.before.if1.false, over-lent (ledgerNumbers (lay freshState)) put.new.1.0 to ledgerSize (put.ensures ∙ ap ledgerNumbers c.before.before.before.before.fresh.ensures) (put.auto.1.0 ∙ mid_len 0 ledgerSize to (omega arith)))
+    rw (le-ltb (length to) ledger_size c.before.before.before.before.before.if1.false, over-lent (ledger_numbers (lay fresh_state)) put.new.1.0 to ledger_size (put.ensures ∙ ap ledger_numbers c.before.before.before.before.fresh.ensures) (put.auto.1.0 ∙ mid_len 0 ledger_size to (omega arith)))
 
-pub cuudhaqil-fresh-spec : {M : Type 1} → statement M
-cuudhaqil-fresh-spec =
+pub cuudhaqil_fresh_spec : {M : Type 1} → statement M
+cuudhaqil_fresh_spec =
     tie.close
     (tie.spec
     returns

@@ -19,8 +19,8 @@ fill-requires-2 c κs =
 returns : tie.Need-returns
 returns c = (c.before.before.before.before.before.before.before.before.fill.ensures ∙ ap (λ (n : List ℕ). over n c.before.before.before.before.before.before.before.before.before.before.before.before.before.before.before.args.verdict.now) c.before.before.before.before.before.before.before.before.before.before.before.verdict-numbers.ensures, c.before.before.fill2.ensures)
 
-pub put-verdict-spec : {M : Type 1} → statement M
-put-verdict-spec =
+pub put_verdict_spec : {M : Type 1} → statement M
+put_verdict_spec =
     tie.close
     (tie.spec
     (λ c κs. tt)

@@ -23,8 +23,8 @@ returns c =
     let places : length (take limits.names list) ≡ limits.names = length-take-le limits.names list (omega arith) in
     rw (c.before.fill.ensures ∙ over-all (take limits.names list) (replicate limits.names 0) (omega (arith, places)))
 
-pub step-from-spec : {M : Type 1} → statement M
-step-from-spec =
+pub step_from_spec : {M : Type 1} → statement M
+step_from_spec =
     tie.close
     (tie.spec
     (λ c. search rules)

@@ -5,7 +5,7 @@ use mathlib.Core.Bool.{false}
 use borrow.Author.Tests.{eq-eqb, ne_eqb}
 use lib.Dec.{eqb}
 use lib.ListN.{length}
-use Rattle.exports.specs.Names.{readName}
+use Rattle.exports.specs.Names.{read_name}
 use borrow.Author.Rules.{rules}
 use Rattle.exports.proofs.names.cuudhaqil_read_name.Statement.{statement}
 use Rattle.exports.proofs.names.cuudhaqil_read_name.Tie as tie
@@ -15,7 +15,7 @@ place : (c : tie.Else1) → eqb (length c.before.before.before.args.number.now) 
 place c = ne_eqb (length c.before.before.before.args.number.now) 0 c.if1.false
 
 returns : tie.Need-returns
-unfolding readName
+unfolding read_name
 returns c = rw (eq-eqb (length c.before.before.before.args.number.now) 0 c.if1.true)
 
 read-name-requires : tie.Need-read-name-requires
@@ -28,7 +28,7 @@ enum_told : tie.Need-enum-told
 enum_told c = search rules
 
 returns-2 : tie.Need-returns-2
-unfolding readName
+unfolding read_name
 returns-2 c = rw (place c.before.before.before, sym c.before.before.read_name.ensures ∙ c.enum_told.given.1)
 
 enum-known-v : tie.Need-enum-known-v
@@ -47,7 +47,7 @@ same_length : tie.Need-same-length
 same_length c = search rules
 
 returns-3 : tie.Need-returns-3
-unfolding readName
+unfolding read_name
 returns-3 c =
     let r = c.before.before.before.before.before.before in
     rw (place r.before, sym r.read_name.ensures ∙ c.before.before.before.before.read.given.1, c.before.v.given.1)
@@ -56,13 +56,13 @@ same-length-2 : tie.Need-same-length-2
 same-length-2 c = search rules
 
 returns-4 : tie.Need-returns-4
-unfolding readName
+unfolding read_name
 returns-4 c =
     let r = c.before.before.before.before.before.before in
     rw (place r.before, sym r.read_name.ensures ∙ c.before.before.before.before.read.given.1, c.before.v2.given.1)
 
-pub cuudhaqil-read-name-spec : {M : Type 1} → statement M
-cuudhaqil-read-name-spec =
+pub cuudhaqil_read_name_spec : {M : Type 1} → statement M
+cuudhaqil_read_name_spec =
     tie.close
     (tie.spec
     returns

@@ -1,7 +1,7 @@
 -- `exports::names::cuudhaqil_write_name` meets its contract: the cases are those of the definition.
 -- Assumes nothing.
 use borrow.Author.Tests.{eq-eqb, ne_eqb}
-use Rattle.exports.specs.Names.{writeName}
+use Rattle.exports.specs.Names.{write_name}
 use borrow.Author.Rules.{rules}
 use Rattle.exports.proofs.names.cuudhaqil_write_name.Statement.{statement}
 use Rattle.exports.proofs.names.cuudhaqil_write_name.Tie as tie
@@ -16,7 +16,7 @@ same_length : tie.Need-same-length
 same_length c = search rules
 
 returns : tie.Need-returns
-unfolding writeName
+unfolding write_name
 returns c =
     let w = c.before.before.before in
     rw (eq-eqb w.before.before.before.before.args.kind 0 w.before.before.if1.true, w.write-name.ensures, c.write-code.ensures)
@@ -31,20 +31,20 @@ same-length-2 : tie.Need-same-length-2
 same-length-2 c = search rules
 
 returns-2 : tie.Need-returns-2
-unfolding writeName
+unfolding write_name
 returns-2 c =
     let w = c.before.before.before in
     let kind = w.before.before.before.before.before.args.kind in
     rw (ne_eqb kind 0 w.before.before.before.if1.false, eq-eqb kind 1 w.before.before.if2.true, w.write-name2.ensures, c.write-code2.ensures)
 
 returns-3 : tie.Need-returns-3
-unfolding writeName
+unfolding write_name
 returns-3 c =
     let kind = c.before.before.before.args.kind in
     rw (ne_eqb kind 0 c.before.if1.false, ne_eqb kind 1 c.if2.false)
 
-pub cuudhaqil-write-name-spec : {M : Type 1} → statement M
-cuudhaqil-write-name-spec =
+pub cuudhaqil_write_name_spec : {M : Type 1} → statement M
+cuudhaqil_write_name_spec =
     tie.close
     (tie.spec
     write-name-requires

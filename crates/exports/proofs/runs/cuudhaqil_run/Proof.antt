@@ -6,9 +6,9 @@ use lib.ListN.{length}
 use borrow.Author.Rules.{rules}
 use borrow.Author.Tests.{lt-ltb, le-ltb}
 use Rattle.ledger.specs.declared.Ledger.{Ledger}
-use Rattle.replay.specs.Replay.{Replay, replayOf}
+use Rattle.replay.specs.Replay.{Replay, replay_of}
 use Rattle.exports.specs.Runs.{called, run}
-use Rattle.ledger_numbers.proofs.Over.{over-two}
+use Rattle.ledger_numbers.proofs.Over.{over_two}
 use Rattle.exports.proofs.runs.cuudhaqil_run.Statement.{statement}
 use Rattle.exports.proofs.runs.cuudhaqil_run.Tie as tie
 
@@ -25,12 +25,12 @@ returns-2 c =
     let counts = a.counts.now in
     let r = ran.run.result in
     rw (le-ltb (length counts) 2 room.if1.false)
-    (ap (λ (l : Ledger). called (replayOf l a.trace.now a.out.now) counts) (sym ran.before.before.fresh.ensures)
+    (ap (λ (l : Ledger). called (replay_of l a.trace.now a.out.now) counts) (sym ran.before.before.fresh.ensures)
     ∙ ap (λ (x : Replay). called x counts) ran.run.ensures
-    ∙ (λ i. record { answer = sym c.ending-code.ensures i; out = ran.run.new.1.1.0; counts = over-two r.read r.written counts (omega (arith, room.if1.false)) i }))
+    ∙ (λ i. record { answer = sym c.ending-code.ensures i; out = ran.run.new.1.1.0; counts = over_two r.read r.written counts (omega (arith, room.if1.false)) i }))
 
-pub cuudhaqil-run-spec : {M : Type 1} → statement M
-cuudhaqil-run-spec =
+pub cuudhaqil_run_spec : {M : Type 1} → statement M
+cuudhaqil_run_spec =
     tie.close
     (tie.spec
     returns

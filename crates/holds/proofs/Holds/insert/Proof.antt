@@ -8,11 +8,11 @@ use borrow.Author.Tests.{lt-ltb, le-ltb}
 use lib.ListN.{length, set}
 use lib.Seq.{length-take-le}
 use Rattle.rules.specs.Limits.{limits}
-use Rattle.arrays.specs.Arrays.{pad, insertedBy}
-use Rattle.arrays.proofs.Sorting.{Inserting, length_inserted, insert-start, insert-swap, insert-stay, insert-last}
+use Rattle.arrays.specs.Arrays.{pad, inserted_by}
+use Rattle.arrays.proofs.Sorting.{Inserting, length_inserted, insert_start, insert_swap, insert_stay, insert-last}
 use Rattle.holds.specs.declared.Holds.{Holds}
-use Rattle.holds.specs.Holds.{noHold, holds_of}
-use Rattle.holds.proofs.Places.{items-long, laid_out, earlier, inserted_rising}
+use Rattle.holds.specs.Holds.{no_hold, holds_of}
+use Rattle.holds.proofs.Places.{items_long, laid_out, earlier, inserted_rising}
 use Rattle.holds.proofs.Holds.insert.Statement.{statement}
 use Rattle.holds.proofs.Holds.insert.Tie as tie
 
@@ -26,7 +26,7 @@ decreases-loop count items₀ x₀ i₀ items x i = count - i
 loop-holds : tie.Need-loop-init invariant-loop decreases-loop
 loop-holds c =
     let s = c.before.args in
-    (omega arith, c.before.requires.1, items-long s.self _ c.before.well-formed.0, insert-start earlier s.hold s.self.items s.self.count)
+    (omega arith, c.before.requires.1, items_long s.self _ c.before.well-formed.0, insert_start earlier s.hold s.self.items s.self.count)
 
 mul-y : tie.Need-overflow-mul-y invariant-loop decreases-loop
 mul-y c = omega arith
@@ -53,8 +53,8 @@ loop-again c =
       h.1,
       h.2,
       ⊎_elim
-          (λ w. rw (w.1, w.2) (insert-swap earlier _ _ _ h.3 noHold (omega arith) (omega arith) (lt-ltb _ _ w.0.taken)))
-          (λ w. rw (w.1, w.2) (insert-stay earlier _ _ _ h.3 noHold (omega arith) (omega arith) (le-ltb _ _ w.0.left)))
+          (λ w. rw (w.1, w.2) (insert_swap earlier _ _ _ h.3 no_hold (omega arith) (omega arith) (lt-ltb _ _ w.0.taken)))
+          (λ w. rw (w.1, w.2) (insert_stay earlier _ _ _ h.3 no_hold (omega arith) (omega arith) (le-ltb _ _ w.0.left)))
           c.if1.branch,
     )
 
@@ -77,16 +77,16 @@ returns c =
     let whole : a.loop.i ≡ s.count = omega arith in
     let done = subst (λ (j : ℕ). Inserting earlier new s.items s.count j a.loop.x a.loop.items) whole h.3 in
     let laid = ap (λ (h : Holds). h.items) (laid_out s h.2 st.requires.0) in
-    let filled : set a.loop.items s.count a.loop.x ≡ pad 8 noHold (insertedBy earlier new (holds_of s)) =
-    subst (λ (n : ℕ). s.items ≡ pad n noHold (holds_of s) → set a.loop.items s.count a.loop.x ≡ pad n noHold (insertedBy earlier new (holds_of s))) h.2
-    (insert-last earlier new s.items s.count noHold done (omega arith)) (sym laid) in
+    let filled : set a.loop.items s.count a.loop.x ≡ pad 8 no_hold (inserted_by earlier new (holds_of s)) =
+    subst (λ (n : ℕ). s.items ≡ pad n no_hold (holds_of s) → set a.loop.items s.count a.loop.x ≡ pad n no_hold (inserted_by earlier new (holds_of s))) h.2
+    (insert-last earlier new s.items s.count no_hold done (omega arith)) (sym laid) in
     let few : length (holds_of s) ≡ s.count = length-take-le s.count s.items (omega arith) in
-    let count : s.count + 1 ≡ length (insertedBy earlier new (holds_of s)) = omega (arith, length_inserted earlier new (holds_of s)) in
+    let count : s.count + 1 ≡ length (inserted_by earlier new (holds_of s)) = omega (arith, length_inserted earlier new (holds_of s)) in
     let same = inserted_rising 0 new (holds_of s) st.requires.2 in
-    λ j. record { count = (count ∙ ap length same) j; items = (filled ∙ ap (pad 8 noHold) same) j }
+    λ j. record { count = (count ∙ ap length same) j; items = (filled ∙ ap (pad 8 no_hold) same) j }
 
-pub insert-spec : {M : Type 1} → statement M
-insert-spec =
+pub insert_spec : {M : Type 1} → statement M
+insert_spec =
     tie.close
     (tie.spec
     invariant-loop

@@ -10,16 +10,16 @@ use lib.ListN.{length, take}
 use lib.Seq.{slice}
 use Rattle.rules.specs.declared.Hold.{Hold}
 use Rattle.rules.specs.Limits.{limits}
-use Rattle.rules.specs.Lists.{risingAbove}
-use Rattle.arrays.proofs.Scan.{scan-next, scan-stop, scan-end, rising-hit, rising-miss}
-use Rattle.holds.specs.Holds.{noHold, numbers}
-use Rattle.holds.proofs.Places.{items-long}
+use Rattle.rules.specs.Lists.{rising_above}
+use Rattle.arrays.proofs.Scan.{scan_next, scan_stop, scan_end, rising_hit, rising-miss}
+use Rattle.holds.specs.Holds.{no_hold, numbers}
+use Rattle.holds.proofs.Places.{items_long}
 use Rattle.holds.proofs.Holds.is_rising.Statement.{statement}
 use Rattle.holds.proofs.Holds.is_rising.Tie as tie
 
 -- what is asked of the holds behind one of that number
 abbrev asked : ℕ → List Hold → Bool
-asked last xs = risingAbove last (numbers xs)
+asked last xs = rising_above last (numbers xs)
 
 abbrev invariant-loop : tie.invariant-loop
 invariant-loop self count last₀ i₀ last i =
@@ -29,7 +29,7 @@ abbrev decreases-loop : tie.decreases-loop
 decreases-loop self count last₀ i₀ last i = count - i
 
 loop-holds : tie.Need-loop-init invariant-loop decreases-loop
-loop-holds c = (omega arith, c.requires, refl, items-long c.args.t1 _ c.well-formed.0, refl)
+loop-holds c = (omega arith, c.requires, refl, items_long c.args.t1 _ c.well-formed.0, refl)
 
 mul-h : tie.Need-overflow-mul-h invariant-loop decreases-loop
 mul-h c = omega arith
@@ -41,7 +41,7 @@ returns : tie.Need-returns invariant-loop decreases-loop
 returns c =
     let a = c.before.before.before in
     let s = a.before.args in
-    scan-stop s.t1.items s.t1.count (asked a.loop.last) a.loop.invariant.4 noHold (omega arith) (omega arith) false (rising-miss _ _ _ (le-ltb _ _ c.if1.true))
+    scan_stop s.t1.items s.t1.count (asked a.loop.last) a.loop.invariant.4 no_hold (omega arith) (omega arith) false (rising-miss _ _ _ (le-ltb _ _ c.if1.true))
 
 add-i : tie.Need-overflow-add-i invariant-loop decreases-loop
 add-i c = omega arith
@@ -54,17 +54,17 @@ loop-again c =
     let a = c.before.before.before in
     let s = a.before.args in
     let h = a.loop.invariant in
-    (omega arith, h.1, h.2, h.3, scan-next s.t1.items s.t1.count (asked a.loop.last) h.4 noHold (omega arith) (omega arith) (asked _) (rising-hit _ _ _ (lt-ltb _ _ c.if1.false)))
+    (omega arith, h.1, h.2, h.3, scan_next s.t1.items s.t1.count (asked a.loop.last) h.4 no_hold (omega arith) (omega arith) (asked _) (rising_hit _ _ _ (lt-ltb _ _ c.if1.false)))
 
 returns-2 : tie.Need-returns-2 invariant-loop decreases-loop
-unfolding risingAbove
+unfolding rising_above
 returns-2 c =
     let s = c.before.before.args in
     let e : c.before.loop.i ≡ s.t1.count = omega arith in
-    scan-end s.t1.items s.t1.count (asked c.before.loop.last) (rw e at c.before.loop.invariant.4)
+    scan_end s.t1.items s.t1.count (asked c.before.loop.last) (rw e at c.before.loop.invariant.4)
 
-pub is-rising-spec : {M : Type 1} → statement M
-is-rising-spec =
+pub is_rising_spec : {M : Type 1} → statement M
+is_rising_spec =
     tie.close
     (tie.spec
     invariant-loop

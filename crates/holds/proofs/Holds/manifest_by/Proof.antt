@@ -10,9 +10,9 @@ use lib.Seq.{slice}
 use Rattle.rules.specs.declared.Hold.{Hold}
 use Rattle.rules.specs.Limits.{limits}
 use Rattle.rules.specs.Lists.{lookup}
-use Rattle.arrays.proofs.Scan.{scan-next, scan-stop, scan-end, lookup-hit, lookup-miss}
-use Rattle.holds.specs.Holds.{noHold}
-use Rattle.holds.proofs.Places.{items-long}
+use Rattle.arrays.proofs.Scan.{scan_next, scan_stop, scan_end, lookup_hit, lookup-miss}
+use Rattle.holds.specs.Holds.{no_hold}
+use Rattle.holds.proofs.Places.{items_long}
 use Rattle.holds.proofs.Holds.manifest_by.Statement.{statement}
 use Rattle.holds.proofs.Holds.manifest_by.Tie as tie
 
@@ -28,7 +28,7 @@ abbrev decreases-loop : tie.decreases-loop
 decreases-loop number self count i₀ i = count - i
 
 loop-holds : tie.Need-loop-init invariant-loop decreases-loop
-loop-holds c = (omega arith, c.requires, refl, items-long c.args.t1 _ c.well-formed.0, refl)
+loop-holds c = (omega arith, c.requires, refl, items_long c.args.t1 _ c.well-formed.0, refl)
 
 mul-h : tie.Need-overflow-mul-h invariant-loop decreases-loop
 mul-h c = omega arith
@@ -41,7 +41,7 @@ returns c =
     let a = c.before.before.before.before in
     let s = a.before.args in
     let h = a.loop.invariant in
-    scan-stop s.t1.items s.t1.count (asked s.number) h.4 noHold (omega arith) (omega arith) _ (lookup-hit _ _ _ _ _ _ (eq-eqb _ _ (sym c.if1.true)))
+    scan_stop s.t1.items s.t1.count (asked s.number) h.4 no_hold (omega arith) (omega arith) _ (lookup_hit _ _ _ _ _ _ (eq-eqb _ _ (sym c.if1.true)))
 
 add-i : tie.Need-overflow-add-i invariant-loop decreases-loop
 add-i c = omega arith
@@ -55,17 +55,17 @@ loop-again c =
     let s = a.before.args in
     let h = a.loop.invariant in
     let ask = asked s.number in
-    (omega arith, h.1, h.2, h.3, scan-next s.t1.items s.t1.count ask h.4 noHold (omega arith) (omega arith) ask (lookup-miss _ _ _ _ _ _ (ne_eqb _ _ (λ e. c.if1.false (sym e)))))
+    (omega arith, h.1, h.2, h.3, scan_next s.t1.items s.t1.count ask h.4 no_hold (omega arith) (omega arith) ask (lookup-miss _ _ _ _ _ _ (ne_eqb _ _ (λ e. c.if1.false (sym e)))))
 
 returns-2 : tie.Need-returns-2 invariant-loop decreases-loop
 unfolding lookup
 returns-2 c =
     let s = c.before.before.args in
     let e : c.before.loop.i ≡ s.t1.count = omega arith in
-    scan-end s.t1.items s.t1.count (asked s.number) (rw e at c.before.loop.invariant.4)
+    scan_end s.t1.items s.t1.count (asked s.number) (rw e at c.before.loop.invariant.4)
 
-pub manifest-by-spec : {M : Type 1} → statement M
-manifest-by-spec =
+pub manifest_by_spec : {M : Type 1} → statement M
+manifest_by_spec =
     tie.close
     (tie.spec
     invariant-loop

@@ -10,15 +10,15 @@ use borrow.Author.Tests.{eq-eqb, ne_eqb}
 use lib.ListN.{length}
 use Rattle.rules.specs.Limits.{limits}
 use Rattle.rules.specs.Step.{other}
-use Rattle.arrays.proofs.Lists.{Packed, packed_none, packed-few, packed-kept, packed-left}
-use Rattle.holds.specs.Holds.{noHold}
-use Rattle.holds.proofs.Places.{items-long, none-items}
+use Rattle.arrays.proofs.Lists.{Packed, packed_none, packed_few, packed_kept, packed_left}
+use Rattle.holds.specs.Holds.{no_hold}
+use Rattle.holds.proofs.Places.{items_long, none_items}
 use Rattle.holds.proofs.Holds.release.Statement.{statement}
 use Rattle.holds.proofs.Holds.release.Tie as tie
 
 abbrev invariant-loop : tie.invariant-loop
 invariant-loop number self next count n₀ items₀ i₀ n items i =
-    (i ≤ count) × (count ≤ limits.holds) × (count ≡ self.count) × (length self.items ≡ 8) × Packed 8 noHold (other number) self.items i n items
+    (i ≤ count) × (count ≤ limits.holds) × (count ≡ self.count) × (length self.items ≡ 8) × Packed 8 no_hold (other number) self.items i n items
 
 abbrev decreases-loop : tie.decreases-loop
 decreases-loop number self next count n₀ items₀ i₀ n items i = count - i
@@ -29,7 +29,7 @@ none-requires c κs = search rules
 loop-holds : tie.Need-loop-init invariant-loop decreases-loop
 loop-holds c =
     let s = c.before.before.args in
-    (omega arith, c.before.before.requires, refl, items-long s.t1 _ c.before.before.well-formed.0, rw (none-items c.before.none.ensures) (packed_none 8 noHold (other s.number) s.t1.items))
+    (omega arith, c.before.before.requires, refl, items_long s.t1 _ c.before.before.well-formed.0, rw (none_items c.before.none.ensures) (packed_none 8 no_hold (other s.number) s.t1.items))
 
 mul-h : tie.Need-overflow-mul-h invariant-loop decreases-loop
 mul-h c = omega arith
@@ -39,7 +39,7 @@ element-copy-out-h c = omega arith
 
 -- no more are kept than are passed
 n≤i : (c : tie.Then1 invariant-loop decreases-loop) → c.before.before.before.before.loop.n ≤ c.before.before.before.before.loop.i
-n≤i c = packed-few _ _ _ _ c.before.before.before.before.loop.invariant.4
+n≤i c = packed_few _ _ _ _ c.before.before.before.before.loop.invariant.4
 
 mul-items : tie.Need-overflow-mul-items invariant-loop decreases-loop
 mul-items c = omega (arith, n≤i c)
@@ -64,8 +64,8 @@ loop-again c =
       h.2,
       h.3,
       ⊎_elim
-          (λ w. rw (w.1, w.2) (packed-kept _ _ _ _ h.4 noHold (omega arith) (omega arith) (ap not (ne_eqb _ _ w.0.taken))))
-          (λ w. rw (w.1, w.2) (packed-left _ _ _ _ h.4 noHold (omega arith) (ap not (eq-eqb _ _ w.0.left))))
+          (λ w. rw (w.1, w.2) (packed_kept _ _ _ _ h.4 no_hold (omega arith) (omega arith) (ap not (ne_eqb _ _ w.0.taken))))
+          (λ w. rw (w.1, w.2) (packed_left _ _ _ _ h.4 no_hold (omega arith) (ap not (eq-eqb _ _ w.0.left))))
           c.if1.branch,
     )
 
@@ -74,7 +74,7 @@ returns c =
     let h = c.before.loop.invariant in
     let s = c.before.before.before.before.args in
     let all : c.before.loop.i ≡ s.t1.count = omega arith in
-    let done = subst (λ (k : ℕ). Packed 8 noHold (other s.number) s.t1.items k c.before.loop.n c.before.loop.items) all h.4 in
+    let done = subst (λ (k : ℕ). Packed 8 no_hold (other s.number) s.t1.items k c.before.loop.n c.before.loop.items) all h.4 in
     λ j. record { count = done.count j; items = done.array j }
 
 pub release_spec : {M : Type 1} → statement M

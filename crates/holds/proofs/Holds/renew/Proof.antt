@@ -8,14 +8,14 @@ use lib.ListN.{length}
 use Rattle.rules.specs.Limits.{limits}
 use Rattle.rules.specs.Step.{renewed}
 use Rattle.arrays.proofs.Lists.{Filled, filled_none, filled_next, filled-count}
-use Rattle.holds.specs.Holds.{noHold}
-use Rattle.holds.proofs.Places.{items-long, none-items}
+use Rattle.holds.specs.Holds.{no_hold}
+use Rattle.holds.proofs.Places.{items_long, none_items}
 use Rattle.holds.proofs.Holds.renew.Statement.{statement}
 use Rattle.holds.proofs.Holds.renew.Tie as tie
 
 abbrev invariant-loop : tie.invariant-loop
 invariant-loop number expiry self next count items₀ i₀ items i =
-    (i ≤ count) × (count ≤ limits.holds) × (count ≡ self.count) × (length self.items ≡ 8) × Filled 8 noHold (renewed number expiry) self.items i items
+    (i ≤ count) × (count ≤ limits.holds) × (count ≡ self.count) × (length self.items ≡ 8) × Filled 8 no_hold (renewed number expiry) self.items i items
 
 abbrev decreases-loop : tie.decreases-loop
 decreases-loop number expiry self next count items₀ i₀ items i = count - i
@@ -26,7 +26,7 @@ none-requires c κs = search rules
 loop-holds : tie.Need-loop-init invariant-loop decreases-loop
 loop-holds c =
     let s = c.before.before.args in
-    (omega arith, c.before.before.requires, refl, items-long s.t1 _ c.before.before.well-formed.0, rw (none-items c.before.none.ensures) (filled_none 8 noHold (renewed s.number s.expiry) s.t1.items))
+    (omega arith, c.before.before.requires, refl, items_long s.t1 _ c.before.before.well-formed.0, rw (none_items c.before.none.ensures) (filled_none 8 no_hold (renewed s.number s.expiry) s.t1.items))
 
 mul-h : tie.Need-overflow-mul-h invariant-loop decreases-loop
 mul-h c = omega arith
@@ -52,18 +52,18 @@ loop-less c = omega arith
 loop-again : tie.Need-loop-preserved invariant-loop decreases-loop
 loop-again c =
     let h = c.before.before.before.loop.invariant in
-    (omega arith, h.1, h.2, h.3, rw c.with-expiry.ensures (filled_next _ _ _ _ h.4 noHold (omega arith) (omega arith)))
+    (omega arith, h.1, h.2, h.3, rw c.with-expiry.ensures (filled_next _ _ _ _ h.4 no_hold (omega arith) (omega arith)))
 
 returns : tie.Need-returns invariant-loop decreases-loop
 returns c =
     let h = c.before.loop.invariant in
     let s = c.before.before.before.before.args in
     let all : c.before.loop.i ≡ s.t1.count = omega arith in
-    let done = subst (λ (k : ℕ). Filled 8 noHold (renewed s.number s.expiry) s.t1.items k c.before.loop.items) all h.4 in
+    let done = subst (λ (k : ℕ). Filled 8 no_hold (renewed s.number s.expiry) s.t1.items k c.before.loop.items) all h.4 in
     λ j. record { count = filled-count (renewed s.number s.expiry) s.t1.count s.t1.items (omega arith) j; items = done j }
 
-pub renew-spec : {M : Type 1} → statement M
-renew-spec =
+pub renew_spec : {M : Type 1} → statement M
+renew_spec =
     tie.close
     (tie.spec
     invariant-loop

@@ -11,28 +11,28 @@ use Rattle.rules.specs.Limits.{limits}
 use Rattle.arrays.specs.Arrays.{pad}
 use Rattle.records.proofs.Places.{tail}
 use Rattle.image.specs.declared.Line.{Line}
-use Rattle.image.specs.Rows.{Cells, Row, absent, total, rowAt}
-use Rattle.image.specs.Format.{manifestRow, manifestFrom, manifestSize}
-use Rattle.image.specs.Code.{line, madeManifest, foundManifest}
-use Rattle.image.proofs.RowLaws.{Sized, row_sized, row_room, row-unfound, pad-front}
+use Rattle.image.specs.Rows.{Cells, Row, absent, total, row_at}
+use Rattle.image.specs.Format.{manifest_row, manifest_from, manifest_size}
+use Rattle.image.specs.Code.{line, made_manifest, found_manifest}
+use Rattle.image.proofs.RowLaws.{Sized, row_sized, row_room, row_unfound, pad_front}
 use Rattle.image.proofs.Things.{manifest-line}
 use borrow.Author.Rules.{rules}
 use Rattle.image.proofs.entries.manifest_at.Statement.{statement}
 use Rattle.image.proofs.entries.manifest_at.Tie as tie
 
 -- the row is found
-found : (c : tie.Else1) → (rowAt manifestRow c.before.before.before.before.before.args.s.now).found ≡ true
+found : (c : tie.Else1) → (row_at manifest_row c.before.before.before.before.before.args.s.now).found ≡ true
 found c = sym (ap (λ (l : Line). l.found) c.before.before.row_at.ensures) ∙ not-false c.before.before.row_at.result.found c.if1.false
 
-sized : (c : tie.Else1) → Sized manifestRow c.before.before.before.before.before.args.s.now (rowAt manifestRow c.before.before.before.before.before.args.s.now)
-sized c = row_sized manifestRow c.before.before.before.before.before.args.s.now (found c)
+sized : (c : tie.Else1) → Sized manifest_row c.before.before.before.before.before.args.s.now (row_at manifest_row c.before.before.before.before.before.args.s.now)
+sized c = row_sized manifest_row c.before.before.before.before.before.args.s.now (found c)
 
-count : (c : tie.Else1) → c.before.before.row_at.result.count ≡ length (rowAt manifestRow c.before.before.before.before.before.args.s.now).value.names
+count : (c : tie.Else1) → c.before.before.row_at.result.count ≡ length (row_at manifest_row c.before.before.before.before.before.args.s.now).value.names
 count c = ap (λ (l : Line). l.count) c.before.before.row_at.ensures
 
-room : (c : tie.Else1) → manifestSize + 8 * c.before.before.row_at.result.count ≤ length c.before.before.before.before.before.args.s.now
+room : (c : tie.Else1) → manifest_size + 8 * c.before.before.row_at.result.count ≤ length c.before.before.before.before.before.args.s.now
 unfolding total
-room c = omega (arith, (sized c).size, row_room manifestRow c.before.before.before.before.before.args.s.now, count c)
+room c = omega (arith, (sized c).size, row_room manifest_row c.before.before.before.before.before.args.s.now, count c)
 
 few : (c : tie.Else1) → c.before.before.row_at.result.count ≤ limits.names
 few c = omega (arith, (sized c).few, count c)
@@ -45,10 +45,10 @@ returns : tie.Need-returns
 unfolding pad
 returns c =
     let s = c.before.before.before.before.before.before.args.s.now in
-    let none = row-unfound manifestRow s (sym (ap (λ (l : Line). l.found) c.before.before.before.row_at.ensures) ∙ not-true c.before.before.before.row_at.result.found c.before.if1.true) in
-    c.manifest-from.ensures ∙ ap (λ (l : Line). madeManifest l (replicate limits.names 0)) c.before.before.before.row_at.ensures
-    ∙ ap (λ (r : Row Cells). madeManifest (line r) (replicate limits.names 0)) none
-    ∙ manifest-line absent ∙ ap (λ (r : Row Cells). foundManifest (record { found = r.found; size = r.size; value = manifestFrom r.value })) (sym none)
+    let none = row_unfound manifest_row s (sym (ap (λ (l : Line). l.found) c.before.before.before.row_at.ensures) ∙ not-true c.before.before.before.row_at.result.found c.before.if1.true) in
+    c.manifest-from.ensures ∙ ap (λ (l : Line). made_manifest l (replicate limits.names 0)) c.before.before.before.row_at.ensures
+    ∙ ap (λ (r : Row Cells). made_manifest (line r) (replicate limits.names 0)) none
+    ∙ manifest-line absent ∙ ap (λ (r : Row Cells). found_manifest (record { found = r.found; size = r.size; value = manifest_from r.value })) (sym none)
 
 sub-read-words : tie.Need-overflow-sub-read-words
 sub-read-words c = omega (arith, room (c))
@@ -63,22 +63,22 @@ slice-aggregate-read-words : tie.Need-slice-aggregate-read-words
 slice-aggregate-read-words c = sym (length-take-le {A = ℕ} c.before.before.before.before.row_at.result.count (replicate limits.names 0) (few c.before.before))
 
 read-words-requires : tie.Need-read-words-requires
-read-words-requires c κs = omega (arith, room c.before.before, length-take-le {A = ℕ} c.before.before.before.before.row_at.result.count (replicate limits.names 0) (few c.before.before), ap length (tail manifestSize c.before.before.before.before.before.before.before.args.s.now), length-drop manifestSize c.before.before.before.before.before.before.before.args.s.now)
+read-words-requires c κs = omega (arith, room c.before.before, length-take-le {A = ℕ} c.before.before.before.before.row_at.result.count (replicate limits.names 0) (few c.before.before), ap length (tail manifest_size c.before.before.before.before.before.before.before.args.s.now), length-drop manifest_size c.before.before.before.before.before.before.before.args.s.now)
 
 returns-2 : tie.Need-returns-2
 unfolding total
 returns-2 c =
     let s = c.before.before.before.before.before.before.before.before.before.before.args.s.now in
-    let r = rowAt manifestRow s in
+    let r = row_at manifest_row s in
     let k = c.before.before.before.before.before.before.before.row_at.result.count in
     let many = length-take-le {A = ℕ} k (replicate limits.names 0) (few c.before.before.before.before.before) in
     let read : c.before.before.read-words.new.1.0 ≡ r.value.names =
-    c.before.before.read-words.ensures ∙ ap₂ words_of (many ∙ count c.before.before.before.before.before) (tail manifestSize s) ∙ (sized c.before.before.before.before.before).names in
-    let names = pad-front limits.names k 0 r.value.names c.before.before.read-words.new.1.0 read (sym (count c.before.before.before.before.before)) in
-    c.manifest-from2.ensures ∙ ap₂ madeManifest c.before.before.before.before.before.before.before.row_at.ensures names ∙ manifest-line r
+    c.before.before.read-words.ensures ∙ ap₂ words_of (many ∙ count c.before.before.before.before.before) (tail manifest_size s) ∙ (sized c.before.before.before.before.before).names in
+    let names = pad_front limits.names k 0 r.value.names c.before.before.read-words.new.1.0 read (sym (count c.before.before.before.before.before)) in
+    c.manifest-from2.ensures ∙ ap₂ made_manifest c.before.before.before.before.before.before.before.row_at.ensures names ∙ manifest-line r
 
-pub manifest-at-spec : {M : Type 1} → statement M
-manifest-at-spec =
+pub manifest_at_spec : {M : Type 1} → statement M
+manifest_at_spec =
     tie.close
     (tie.spec
     (λ c. search rules)

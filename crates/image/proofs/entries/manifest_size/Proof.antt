@@ -6,7 +6,7 @@ use lib.ListN.{length, take}
 use lib.Seq.{length-take-le}
 use Rattle.rules.specs.Limits.{limits}
 use Rattle.rules.proofs.Typed.{padded-room}
-use Rattle.manifests.specs.Manifests.{manifestOf}
+use Rattle.manifests.specs.Manifests.{manifest_of}
 use Rattle.image.proofs.Lengths.{length-manifest}
 use borrow.Author.Rules.{rules}
 use Rattle.image.proofs.entries.manifest_size.Statement.{statement}
@@ -28,10 +28,10 @@ returns c =
     let m = c.before.args.m in
     let many : length m.names ≡ limits.names = search rules in
     let size : length (take m.count m.names) ≡ m.count = length-take-le m.count m.names (omega (arith, many, few c.before)) in
-    omega (arith, size, length-manifest 0 (manifestOf m))
+    omega (arith, size, length-manifest 0 (manifest_of m))
 
-pub manifest-size-spec : {M : Type 1} → statement M
-manifest-size-spec =
+pub manifest_size_spec : {M : Type 1} → statement M
+manifest_size_spec =
     tie.close
     (tie.spec
     mul-result

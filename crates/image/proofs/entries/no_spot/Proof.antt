@@ -6,8 +6,8 @@ use Rattle.image.proofs.entries.no_spot.Tie as tie
 returns : tie.Need-returns
 returns c = rw c.no-object.ensures
 
-pub no-spot-spec : {M : Type 1} → statement M
-no-spot-spec =
+pub no_spot_spec : {M : Type 1} → statement M
+no_spot_spec =
     tie.close
     (tie.spec
     (λ c κs. search rules)

@@ -6,24 +6,24 @@ use native.Mathlib.Omega.{arith}
 use lib.ListN.{length, take, drop, get_or}
 use Rattle.fields.specs.Bytes.{value_of, kept64}
 use Rattle.fields.proofs.Bytes.{value-one}
-use Rattle.image.specs.Rows.{numbersOf}
-use Rattle.image.specs.Format.{objectRow}
-use Rattle.image.proofs.RowLaws.{numbers-at}
+use Rattle.image.specs.Rows.{numbers_of}
+use Rattle.image.specs.Format.{object_row}
+use Rattle.image.proofs.RowLaws.{numbers_at_lem}
 use borrow.Author.Rules.{rules}
 use Rattle.image.proofs.entries.object_columns.Statement.{statement}
 use Rattle.image.proofs.entries.object_columns.Tie as tie
 
 -- the bytes that each of them has
-columns : (s : List ℕ) → numbersOf objectRow.widths (drop 3 s)
+columns : (s : List ℕ) → numbers_of object_row.widths (drop 3 s)
     ≡ kept64 (value_of (take 1 (drop 3 s))) ∷ kept64 (value_of (take 8 (drop 4 s))) ∷ kept64 (value_of (take 1 (drop 12 s))) ∷ kept64 (value_of (take 8 (drop 13 s)))
     ∷ kept64 (value_of (take 2 (drop 21 s))) ∷ kept64 (value_of (take 1 (drop 23 s))) ∷ []
-unfolding numbersOf
+unfolding numbers_of
 columns s =
-    numbers-at 1 (8 ∷ 1 ∷ 8 ∷ 2 ∷ 1 ∷ []) 3 s ∙ ap (λ (l : List ℕ). kept64 (value_of (take 1 (drop 3 s))) ∷ l)
-    (numbers-at 8 (1 ∷ 8 ∷ 2 ∷ 1 ∷ []) 4 s ∙ ap (λ (l : List ℕ). kept64 (value_of (take 8 (drop 4 s))) ∷ l)
-    (numbers-at 1 (8 ∷ 2 ∷ 1 ∷ []) 12 s ∙ ap (λ (l : List ℕ). kept64 (value_of (take 1 (drop 12 s))) ∷ l)
-    (numbers-at 8 (2 ∷ 1 ∷ []) 13 s ∙ ap (λ (l : List ℕ). kept64 (value_of (take 8 (drop 13 s))) ∷ l)
-    (numbers-at 2 (1 ∷ []) 21 s ∙ ap (λ (l : List ℕ). kept64 (value_of (take 2 (drop 21 s))) ∷ l) (numbers-at 1 [] 23 s)))))
+    numbers_at_lem 1 (8 ∷ 1 ∷ 8 ∷ 2 ∷ 1 ∷ []) 3 s ∙ ap (λ (l : List ℕ). kept64 (value_of (take 1 (drop 3 s))) ∷ l)
+    (numbers_at_lem 8 (1 ∷ 8 ∷ 2 ∷ 1 ∷ []) 4 s ∙ ap (λ (l : List ℕ). kept64 (value_of (take 8 (drop 4 s))) ∷ l)
+    (numbers_at_lem 1 (8 ∷ 2 ∷ 1 ∷ []) 12 s ∙ ap (λ (l : List ℕ). kept64 (value_of (take 1 (drop 12 s))) ∷ l)
+    (numbers_at_lem 8 (2 ∷ 1 ∷ []) 13 s ∙ ap (λ (l : List ℕ). kept64 (value_of (take 8 (drop 13 s))) ∷ l)
+    (numbers_at_lem 2 (1 ∷ []) 21 s ∙ ap (λ (l : List ℕ). kept64 (value_of (take 2 (drop 21 s))) ∷ l) (numbers_at_lem 1 [] 23 s)))))
 
 -- a byte is what its one digit says
 one : (s : List ℕ) (at r : ℕ) → at < length s → r ≡ get_or s at 0 → r < 256 → r ≡ kept64 (value_of (take 1 (drop at s)))
@@ -45,8 +45,8 @@ returns c =
     ∷ [])
     ∙ sym (columns s)
 
-pub object-columns-spec : {M : Type 1} → statement M
-object-columns-spec =
+pub object_columns_spec : {M : Type 1} → statement M
+object_columns_spec =
     tie.close
     (tie.spec
     (λ c. search rules)

@@ -4,10 +4,10 @@ use Rattle.image.proofs.entries.object_numbers.Statement.{statement}
 use Rattle.image.proofs.entries.object_numbers.Tie as tie
 
 returns : tie.Need-returns
-returns c = rw (c.before.before.role-number.ensures, c.before.flag-number.ensures)
+returns c = rw (c.before.before.role_number_lem.ensures, c.before.flag-number.ensures)
 
-pub object-numbers-spec : {M : Type 1} → statement M
-object-numbers-spec =
+pub object_numbers_spec : {M : Type 1} → statement M
+object_numbers_spec =
     tie.close
     (tie.spec
     (λ c κs. search rules)

@@ -9,8 +9,8 @@ returns c = rw (eq-eqb _ _ c.if1.true)
 returns-2 : tie.Need-returns-2
 returns-2 c = rw (ne_eqb _ _ c.if1.false)
 
-pub place-size-spec : {M : Type 1} → statement M
-place-size-spec =
+pub place_size_spec : {M : Type 1} → statement M
+place_size_spec =
     tie.close
     (tie.spec
     returns

@@ -6,10 +6,10 @@ use lib.ListN.{length, take}
 use lib.Seq.{length-take-le, length_front}
 use Rattle.rules.specs.Limits.{limits}
 use Rattle.rules.proofs.Typed.{padded-room}
-use Rattle.manifests.specs.Manifests.{manifestOf}
-use Rattle.image.specs.Format.{manifestSize}
+use Rattle.manifests.specs.Manifests.{manifest_of}
+use Rattle.image.specs.Format.{manifest_size}
 use Rattle.image.specs.Rows.{total}
-use Rattle.image.specs.Image.{manifestBytes}
+use Rattle.image.specs.Image.{manifest_bytes}
 use Rattle.image.proofs.Lengths.{length-manifest}
 use Rattle.image.proofs.Things.{put-part}
 use borrow.Author.Rules.{rules}
@@ -25,8 +25,8 @@ few c = omega (arith, many c, padded-room c.args.m.count c.args.m.names c.requir
 listed : (c : tie.Start) → length (take c.args.m.count c.args.m.names) ≡ c.args.m.count
 listed c = length-take-le c.args.m.count c.args.m.names (omega (arith, many c, few c))
 
-long : (c : tie.Start) → length (manifestBytes 0 (manifestOf c.args.m)) ≡ manifestSize + 8 * c.args.m.count
-long c = omega (arith, length-manifest 0 (manifestOf c.args.m), listed c)
+long : (c : tie.Start) → length (manifest_bytes 0 (manifest_of c.args.m)) ≡ manifest_size + 8 * c.args.m.count
+long c = omega (arith, length-manifest 0 (manifest_of c.args.m), listed c)
 
 mul-size : tie.Need-overflow-mul-size
 mul-size c = omega (arith, few c.before.before)
@@ -44,24 +44,24 @@ slice-relend-prefix-put-row : tie.Need-slice-relend-prefix-put-row
 slice-relend-prefix-put-row c = omega (arith, long c.before.before.before.before.before, c.before.before.before.before.before.requires.1)
 
 slice-aggregate-put-row-4 : tie.Need-slice-aggregate-put-row-4
-slice-aggregate-put-row-4 c = sym (length-take-le (manifestSize + 8 * c.before.before.before.before.before.before.args.m.count) c.before.before.before.before.before.before.args.out.now (omega (arith, long c.before.before.before.before.before.before, c.before.before.before.before.before.before.requires.1)))
+slice-aggregate-put-row-4 c = sym (length-take-le (manifest_size + 8 * c.before.before.before.before.before.before.args.m.count) c.before.before.before.before.before.before.args.out.now (omega (arith, long c.before.before.before.before.before.before, c.before.before.before.before.before.before.requires.1)))
 
 put-row-requires : tie.Need-put-row-requires
 unfolding total
 put-row-requires c κs =
-    (refl, refl, omega (arith, listed c.before.before.before.before.before.before, length-take-le (manifestSize + 8 * c.before.before.before.before.before.before.args.m.count) c.before.before.before.before.before.before.args.out.now (omega (arith, long c.before.before.before.before.before.before, c.before.before.before.before.before.before.requires.1))))
+    (refl, refl, omega (arith, listed c.before.before.before.before.before.before, length-take-le (manifest_size + 8 * c.before.before.before.before.before.before.args.m.count) c.before.before.before.before.before.before.args.out.now (omega (arith, long c.before.before.before.before.before.before, c.before.before.before.before.before.before.requires.1))))
 
 same_length : tie.Need-same-length
-same_length c = length_front c.before.before.before.before.before.before.before.before.before.args.out.now c.before.before.put-row.new.1.1.1.1.1.0 (manifestSize + 8 * c.before.before.before.before.before.before.before.before.before.args.m.count) c.before.before.put-row.auto.1.1.1.1.1.0
+same_length c = length_front c.before.before.before.before.before.before.before.before.before.args.out.now c.before.before.put-row.new.1.1.1.1.1.0 (manifest_size + 8 * c.before.before.before.before.before.before.before.before.before.args.m.count) c.before.before.put-row.auto.1.1.1.1.1.0
 
 returns : tie.Need-returns
-unfolding manifestBytes
+unfolding manifest_bytes
 returns c =
     let a = c.before.before.before.before.before.before.before.before.before.args in
-    put-part (manifestBytes 0 (manifestOf a.m)) a.out.now c.before.before.put-row.new.1.1.1.1.1.0 (manifestSize + 8 * a.m.count) c.before.before.put-row.ensures (long c.before.before.before.before.before.before.before.before.before)
+    put-part (manifest_bytes 0 (manifest_of a.m)) a.out.now c.before.before.put-row.new.1.1.1.1.1.0 (manifest_size + 8 * a.m.count) c.before.before.put-row.ensures (long c.before.before.before.before.before.before.before.before.before)
 
-pub put-manifest-spec : {M : Type 1} → statement M
-put-manifest-spec =
+pub put_manifest_spec : {M : Type 1} → statement M
+put_manifest_spec =
     tie.close
     (tie.spec
     mul-size

@@ -14,8 +14,8 @@ put-row-requires c κs = (refl, add-zero c.before.before.before.before.before.ar
 returns : tie.Need-returns
 returns c = c.before.before.put-row.ensures
 
-pub put-single-spec : {M : Type 1} → statement M
-put-single-spec =
+pub put_single_spec : {M : Type 1} → statement M
+put_single_spec =
     tie.close
     (tie.spec
     (λ c. search rules)

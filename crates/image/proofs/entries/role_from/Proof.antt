@@ -9,8 +9,8 @@ returns c = rw (eq-eqb _ _ c.if1.true)
 returns-2 : tie.Need-returns-2
 returns-2 c = rw (ne_eqb _ _ c.if1.false)
 
-pub role-from-spec : {M : Type 1} → statement M
-role-from-spec =
+pub role_from_spec : {M : Type 1} → statement M
+role_from_spec =
     tie.close
     (tie.spec
     returns

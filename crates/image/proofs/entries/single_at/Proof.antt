@@ -13,8 +13,8 @@ row-at-requires c κs = record { wide = add-zero c.before.before.args.width; col
 returns : tie.Need-returns
 returns c = c.row_at.ensures
 
-pub single-at-spec : {M : Type 1} → statement M
-single-at-spec =
+pub single_at_spec : {M : Type 1} → statement M
+single_at_spec =
     tie.close
     (tie.spec
     (λ c. search rules)

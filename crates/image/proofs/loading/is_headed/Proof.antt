@@ -6,34 +6,34 @@ use lib.ListN.{get_or, drop}
 use borrow.Author.Tests.{not-true, not-false, eq-eqb, ne_eqb}
 use Rattle.records.proofs.Places.{tail}
 use Rattle.rules.specs.Lists.{conj}
-use Rattle.arrays.proofs.Lists.{getD-pad}
+use Rattle.arrays.proofs.Lists.{get_d_pad}
 use Rattle.image.specs.declared.Line.{Line}
-use Rattle.image.specs.Rows.{rowAt}
-use Rattle.image.specs.Format.{editionRow, clockRow, collectedRow, edition}
-use Rattle.image.specs.Reading.{clockAt, collectedAt}
-use Rattle.image.specs.Code.{mostColumns}
+use Rattle.image.specs.Rows.{row_at}
+use Rattle.image.specs.Format.{edition_row, clock_row, collected_row, edition}
+use Rattle.image.specs.Reading.{clock_at, collected_at}
+use Rattle.image.specs.Code.{most_columns}
 use Rattle.image.proofs.Heads.{edition-room, clock-room}
 use borrow.Author.Rules.{rules}
 use Rattle.image.proofs.loading.is_headed.Statement.{statement}
 use Rattle.image.proofs.loading.is_headed.Tie as tie
 
 -- what was found, by the definition
-first : (c : tie.After-single-at) → c.single-at.result.found ≡ (rowAt editionRow c.before.before.args.s.now).found
+first : (c : tie.After-single-at) → c.single-at.result.found ≡ (row_at edition_row c.before.before.args.s.now).found
 first c = ap (λ (l : Line). l.found) c.single-at.ensures
 
-number : (c : tie.After-single-at) → get_or c.single-at.result.numbers 0 0 ≡ get_or (rowAt editionRow c.before.before.args.s.now).value.numbers 0 0
-number c = ap (λ (l : Line). get_or l.numbers 0 0) c.single-at.ensures ∙ getD-pad mostColumns 0 (rowAt editionRow c.before.before.args.s.now).value.numbers 0
+number : (c : tie.After-single-at) → get_or c.single-at.result.numbers 0 0 ≡ get_or (row_at edition_row c.before.before.args.s.now).value.numbers 0 0
+number c = ap (λ (l : Line). get_or l.numbers 0 0) c.single-at.ensures ∙ get_d_pad most_columns 0 (row_at edition_row c.before.before.args.s.now).value.numbers 0
 
-second : (c : tie.After-single-at2) → c.single-at2.result.found ≡ (rowAt clockRow (drop clockAt c.before.before.before.before.before.before.before.before.args.s.now)).found
-second c = ap (λ (l : Line). l.found) c.single-at2.ensures ∙ ap (λ bs. (rowAt clockRow bs).found) (tail clockAt c.before.before.before.before.before.before.before.before.args.s.now)
+second : (c : tie.After-single-at2) → c.single-at2.result.found ≡ (row_at clock_row (drop clock_at c.before.before.before.before.before.before.before.before.args.s.now)).found
+second c = ap (λ (l : Line). l.found) c.single-at2.ensures ∙ ap (λ bs. (row_at clock_row bs).found) (tail clock_at c.before.before.before.before.before.before.before.before.args.s.now)
 
-third : (c : tie.After-single-at3) → c.single-at3.result.found ≡ (rowAt collectedRow (drop collectedAt c.before.before.before.before.before.before.before.before.before.before.before.before.args.s.now)).found
-third c = ap (λ (l : Line). l.found) c.single-at3.ensures ∙ ap (λ bs. (rowAt collectedRow bs).found) (tail collectedAt c.before.before.before.before.before.before.before.before.before.before.before.before.args.s.now)
+third : (c : tie.After-single-at3) → c.single-at3.result.found ≡ (row_at collected_row (drop collected_at c.before.before.before.before.before.before.before.before.before.before.before.before.args.s.now)).found
+third c = ap (λ (l : Line). l.found) c.single-at3.ensures ∙ ap (λ bs. (row_at collected_row bs).found) (tail collected_at c.before.before.before.before.before.before.before.before.before.before.before.before.args.s.now)
 
-has_first : (c : tie.Else1) → (rowAt editionRow c.before.before.before.before.args.s.now).found ≡ true
+has_first : (c : tie.Else1) → (row_at edition_row c.before.before.before.before.args.s.now).found ≡ true
 has_first c = sym (first c.before.before) ∙ not-false c.before.before.single-at.result.found c.if1.false
 
-has-second : (c : tie.Else3) → (rowAt clockRow (drop clockAt c.before.before.before.before.before.before.before.before.before.before.args.s.now)).found ≡ true
+has-second : (c : tie.Else3) → (row_at clock_row (drop clock_at c.before.before.before.before.before.before.before.before.before.before.args.s.now)).found ≡ true
 has-second c = sym (second c.before.before) ∙ not-false c.before.before.single-at2.result.found c.if3.false
 
 returns : tie.Need-returns
@@ -66,8 +66,8 @@ unfolding conj
 returns-4 c =
     rw (has_first c.before.before.before.before.before.before.before.before, eq-eqb _ edition (sym (number c.before.before.before.before.before.before.before.before.before.before) ∙ c.before.before.before.before.before.before.if2.false), has-second c.before.before, and-true) (third c)
 
-pub is-headed-spec : {M : Type 1} → statement M
-is-headed-spec =
+pub is_headed_spec : {M : Type 1} → statement M
+is_headed_spec =
     tie.close
     (tie.spec
     (λ c κs. search rules)

@@ -9,14 +9,14 @@ use borrow.Author.Tests.{not-true, not-false}
 use Rattle.rules.specs.declared.Hold.{Hold}
 use Rattle.rules.specs.Limits.{limits}
 use Rattle.records.proofs.Places.{tail}
-use Rattle.holds.specs.Holds.{noHold}
-use Rattle.holds.proofs.Places.{none-items}
+use Rattle.holds.specs.Holds.{no_hold}
+use Rattle.holds.proofs.Places.{none_items}
 use Rattle.image.specs.declared.HoldFound.{HoldFound}
-use Rattle.image.specs.Format.{holdRow}
-use Rattle.image.specs.Reading.{holdAt, holds_of}
-use Rattle.image.specs.Code.{foundHold}
+use Rattle.image.specs.Format.{hold_row}
+use Rattle.image.specs.Reading.{hold_at, holds_of}
+use Rattle.image.specs.Code.{found_hold}
 use Rattle.image.proofs.RowLaws.{row_room}
-use Rattle.image.proofs.Filling.{Filling, filling-none, filling-next, filling-end, filling-full, map_same}
+use Rattle.image.proofs.Filling.{Filling, filling_none, filling_next, filling_end, filling_full, map_same}
 use Rattle.arrays.specs.Arrays.{pad}
 use borrow.Author.Rules.{rules}
 use Rattle.image.proofs.loading.read_holds.Statement.{statement}
@@ -26,26 +26,26 @@ abbrev same : Hold → Hold
 same x = x
 
 abbrev invariant-loop : tie.invariant-loop
-invariant-loop s items₀ at₀ i₀ items at i = (i ≤ limits.holds) × (length items ≡ limits.holds) × Filling holdAt same limits.holds noHold s i at items
+invariant-loop s items₀ at₀ i₀ items at i = (i ≤ limits.holds) × (length items ≡ limits.holds) × Filling hold_at same limits.holds no_hold s i at items
 
 abbrev decreases-loop : tie.decreases-loop
 decreases-loop s items₀ at₀ i₀ items at i = limits.holds - i
 
 -- the row that was found is the one of the bytes that are left
-found : (c : tie.After-hold-at invariant-loop decreases-loop) → c.hold_at.result ≡ foundHold (holdAt c.before.before.before.loop.i (drop c.before.before.before.loop.at c.before.before.before.before.before.before.before.args.s.now))
-found c = c.hold_at.ensures ∙ ap (λ l. foundHold (holdAt 0 l)) (tail c.before.before.before.loop.at c.before.before.before.before.before.before.before.args.s.now)
+found : (c : tie.After-hold-at invariant-loop decreases-loop) → c.hold_at.result ≡ found_hold (hold_at c.before.before.before.loop.i (drop c.before.before.before.loop.at c.before.before.before.before.before.before.before.args.s.now))
+found c = c.hold_at.ensures ∙ ap (λ l. found_hold (hold_at 0 l)) (tail c.before.before.before.loop.at c.before.before.before.before.before.before.before.args.s.now)
 
-there : (c : tie.Else1 invariant-loop decreases-loop) → (holdAt c.before.before.before.before.before.loop.i (drop c.before.before.before.before.before.loop.at c.before.before.before.before.before.before.before.before.before.args.s.now)).found ≡ true
+there : (c : tie.Else1 invariant-loop decreases-loop) → (hold_at c.before.before.before.before.before.loop.i (drop c.before.before.before.before.before.loop.at c.before.before.before.before.before.before.before.before.before.args.s.now)).found ≡ true
 there c = sym (ap (λ (m : HoldFound). m.found) (found c.before.before)) ∙ not-false c.before.before.hold_at.result.found c.if1.false
 
 room : (c : tie.Else1 invariant-loop decreases-loop) → c.before.before.before.before.before.loop.at + c.before.before.hold_at.result.size ≤ length c.before.before.before.before.before.before.before.before.before.args.s.now
 room c =
-    omega (arith, ap (λ (m : HoldFound). m.size) (found c.before.before), row_room holdRow (drop c.before.before.before.before.before.loop.at c.before.before.before.before.before.before.before.before.before.args.s.now), length-drop c.before.before.before.before.before.loop.at c.before.before.before.before.before.before.before.before.before.args.s.now, c.before.before.before.before.before.loop.invariant.2.going.room)
+    omega (arith, ap (λ (m : HoldFound). m.size) (found c.before.before), row_room hold_row (drop c.before.before.before.before.before.loop.at c.before.before.before.before.before.before.before.before.before.args.s.now), length-drop c.before.before.before.before.before.loop.at c.before.before.before.before.before.before.before.before.before.args.s.now, c.before.before.before.before.before.loop.invariant.2.going.room)
 
 loop-holds : tie.Need-loop-init invariant-loop decreases-loop
 loop-holds c =
-    let none : c.before.none.result.items ≡ replicate limits.holds noHold = none-items c.before.none.ensures in
-    (omega arith, ap length none ∙ length-replicate limits.holds noHold, filling-none holdAt same limits.holds noHold c.before.before.before.args.s.now none)
+    let none : c.before.none.result.items ≡ replicate limits.holds no_hold = none_items c.before.none.ensures in
+    (omega arith, ap length none ∙ length-replicate limits.holds no_hold, filling_none hold_at same limits.holds no_hold c.before.before.before.args.s.now none)
 
 sub-hold-at : tie.Need-overflow-sub-hold-at invariant-loop decreases-loop
 sub-hold-at c = omega (arith, c.before.loop.invariant.2.going.room)
@@ -66,26 +66,26 @@ loop-again : tie.Need-loop-preserved invariant-loop decreases-loop
 loop-again c =
     let l = c.before.before.before.before.before.before.before.loop in
     let s = c.before.before.before.before.before.before.before.before.before.before.before.args.s.now in
-    let r = holdAt l.i (drop l.at s) in
+    let r = hold_at l.i (drop l.at s) in
     let e = found c.before.before.before.before in
-    let next = filling-next holdAt same limits.holds noHold s l.invariant.2 {x = c.before.before.before.before.hold_at.result.hold} c.before.before.before.before.before.before.loop-test.true (there c.before.before) (row_room holdRow (drop l.at s)) (ap (λ (m : HoldFound). m.hold) e) in
-    (omega arith, simp length-set l.invariant.1, subst⁻¹ (λ n. Filling holdAt same limits.holds noHold s (l.i + 1) (l.at + n) (set l.items l.i c.before.before.before.before.hold_at.result.hold)) (ap (λ (m : HoldFound). m.size) e) next)
+    let next = filling_next hold_at same limits.holds no_hold s l.invariant.2 {x = c.before.before.before.before.hold_at.result.hold} c.before.before.before.before.before.before.loop-test.true (there c.before.before) (row_room hold_row (drop l.at s)) (ap (λ (m : HoldFound). m.hold) e) in
+    (omega arith, simp length-set l.invariant.1, subst⁻¹ (λ n. Filling hold_at same limits.holds no_hold s (l.i + 1) (l.at + n) (set l.items l.i c.before.before.before.before.hold_at.result.hold)) (ap (λ (m : HoldFound). m.size) e) next)
 
 returns : tie.Need-returns invariant-loop decreases-loop
 returns c =
-    let f = filling-full holdAt same limits.holds noHold c.before.before.before.before.before.args.s.now c.before.loop.invariant.2 c.loop-test.false in
-    let all = f.array ∙ ap (pad limits.holds noHold) (map_same (holds_of c.before.before.before.before.before.args.s.now).values) in
+    let f = filling_full hold_at same limits.holds no_hold c.before.before.before.before.before.args.s.now c.before.loop.invariant.2 c.loop-test.false in
+    let all = f.array ∙ ap (pad limits.holds no_hold) (map_same (holds_of c.before.before.before.before.before.args.s.now).values) in
     λ i. record { holds = record { count = f.count i; items = all i }; size = f.size i }
 
 returns-2 : tie.Need-returns-2 invariant-loop decreases-loop
 returns-2 c =
     let none = sym (ap (λ (m : HoldFound). m.found) (found c.before.before)) ∙ not-true c.before.before.hold_at.result.found c.if1.true in
-    let f = filling-end holdAt same limits.holds noHold c.before.before.before.before.before.before.before.before.before.args.s.now c.before.before.before.before.before.loop.invariant.2 c.before.before.before.before.loop-test.true none in
-    let all = f.array ∙ ap (pad limits.holds noHold) (map_same (holds_of c.before.before.before.before.before.before.before.before.before.args.s.now).values) in
+    let f = filling_end hold_at same limits.holds no_hold c.before.before.before.before.before.before.before.before.before.args.s.now c.before.before.before.before.before.loop.invariant.2 c.before.before.before.before.loop-test.true none in
+    let all = f.array ∙ ap (pad limits.holds no_hold) (map_same (holds_of c.before.before.before.before.before.before.before.before.before.args.s.now).values) in
     λ i. record { holds = record { count = f.count i; items = all i }; size = f.size i }
 
-pub read-holds-spec : {M : Type 1} → statement M
-read-holds-spec =
+pub read_holds_spec : {M : Type 1} → statement M
+read_holds_spec =
     tie.close
     (tie.spec
     invariant-loop

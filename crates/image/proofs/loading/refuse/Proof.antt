@@ -6,8 +6,8 @@ use Rattle.image.proofs.loading.refuse.Tie as tie
 returns : tie.Need-returns
 returns c = rw c.fresh.ensures
 
-pub refuse-spec : {M : Type 1} → statement M
-refuse-spec =
+pub refuse_spec : {M : Type 1} → statement M
+refuse_spec =
     tie.close
     (tie.spec
     (λ c κs. search rules)

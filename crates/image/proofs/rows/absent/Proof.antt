@@ -8,5 +8,5 @@ returns : tie.Need-returns
 unfolding pad
 returns c = refl
 
-pub absent-spec : {M : Type 1} → statement M
-absent-spec = tie.close (tie.spec returns)
+pub absent_spec : {M : Type 1} → statement M
+absent_spec = tie.close (tie.spec returns)

@@ -11,7 +11,7 @@ use Rattle.fields.specs.Bytes.{be}
 use Rattle.fields.proofs.Bytes.{length-be}
 use Rattle.records.proofs.Pieces.{take_part}
 use Rattle.image.specs.Rows.{bare, total}
-use Rattle.image.proofs.RowLaws.{bare-from, bare-end, total-from, total-end}
+use Rattle.image.proofs.RowLaws.{bare-from, bare_end, total-from, total_end}
 use borrow.Author.Rules.{rules}
 use Rattle.image.proofs.rows.put_columns.Statement.{statement}
 use Rattle.image.proofs.rows.put_columns.Tie as tie
@@ -78,11 +78,11 @@ returns : tie.Need-returns invariant-loop decreases-loop
 returns c =
     let l = c.before.loop in
     let a = c.before.before.before.before.before.args in
-    let none = bare-end a.widths.now (drop l.i a.numbers.now) l.i c.loop-test.false in
-    rw (none, append-nil, take_all l.at l.out (omega (arith, l.invariant.2, l.invariant.1, total-end a.widths.now l.i c.loop-test.false))) at l.invariant.3
+    let none = bare_end a.widths.now (drop l.i a.numbers.now) l.i c.loop-test.false in
+    rw (none, append-nil, take_all l.at l.out (omega (arith, l.invariant.2, l.invariant.1, total_end a.widths.now l.i c.loop-test.false))) at l.invariant.3
 
-pub put-columns-spec : {M : Type 1} → statement M
-put-columns-spec =
+pub put_columns_spec : {M : Type 1} → statement M
+put_columns_spec =
     tie.close
     (tie.spec
     invariant-loop

@@ -7,15 +7,15 @@ use native.Mathlib.Numerals.{add-one}
 use native.Mathlib.Omega.{arith}
 use lib.ListN.{length, get_or, take, drop, set, length-set}
 use lib.Seq.{take-suc-set, take_all, append_snoc, drop-drop}
-use Rattle.image.specs.Rows.{total, numbersOf}
-use Rattle.image.proofs.RowLaws.{numbers-from, numbers-end, total-from}
+use Rattle.image.specs.Rows.{total, numbers_of}
+use Rattle.image.proofs.RowLaws.{numbers-from, numbers_end, total-from}
 use borrow.Author.Rules.{rules}
 use Rattle.image.proofs.rows.read_columns.Statement.{statement}
 use Rattle.image.proofs.rows.read_columns.Tie as tie
 
 abbrev invariant-loop : tie.invariant-loop
 invariant-loop s widths numbers₀ at₀ i₀ numbers at i =
-    (i ≤ length widths) × (length numbers ≡ length numbers₀) × (at + total (drop i widths) ≤ length s) × (take i numbers ++ numbersOf (drop i widths) (drop at s) ≡ numbersOf widths s)
+    (i ≤ length widths) × (length numbers ≡ length numbers₀) × (at + total (drop i widths) ≤ length s) × (take i numbers ++ numbers_of (drop i widths) (drop at s) ≡ numbers_of widths s)
 
 abbrev decreases-loop : tie.decreases-loop
 decreases-loop s widths numbers₀ at₀ i₀ numbers at i = length widths - i
@@ -72,10 +72,10 @@ returns : tie.Need-returns invariant-loop decreases-loop
 returns c =
     let l = c.before.loop in
     let a = c.before.before.before.before.before.args in
-    rw (numbers-end a.widths.now (drop l.at a.s.now) l.i c.loop-test.false, append-nil, take_all l.i l.numbers (omega (arith, c.before.before.before.before.before.requires.0, l.invariant.1))) at l.invariant.3
+    rw (numbers_end a.widths.now (drop l.at a.s.now) l.i c.loop-test.false, append-nil, take_all l.i l.numbers (omega (arith, c.before.before.before.before.before.requires.0, l.invariant.1))) at l.invariant.3
 
-pub read-columns-spec : {M : Type 1} → statement M
-read-columns-spec =
+pub read_columns_spec : {M : Type 1} → statement M
+read_columns_spec =
     tie.close
     (tie.spec
     invariant-loop

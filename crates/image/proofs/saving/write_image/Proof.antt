@@ -6,13 +6,13 @@ use native.Mathlib.Omega.{arith}
 use lib.ListN.{length}
 use lib.Seq.{length-take-le, length_front}
 use borrow.Author.Tests.{not-true, not-false}
-use Rattle.ledger.specs.Ledger.{isSound}
+use Rattle.ledger.specs.Ledger.{is_sound}
 use Rattle.image.proofs.Results.{write-unsound, write-full, write-put}
 use borrow.Author.Rules.{rules}
 use Rattle.image.proofs.saving.write_image.Statement.{statement}
 use Rattle.image.proofs.saving.write_image.Tie as tie
 
-sound : (c : tie.Else1) → isSound c.before.before.before.args.ledger ≡ true
+sound : (c : tie.Else1) → is_sound c.before.before.before.args.ledger ≡ true
 sound c = sym c.before.is-sound.ensures ∙ not-false c.before.is-sound.result c.if1.false
 
 room : (c : tie.Else2) → c.before.type_size.result ≤ length c.before.before.before.before.before.args.out.now
@@ -42,8 +42,8 @@ same_length c = length_front c.before.before.before.before.before.before.before.
 returns-3 : tie.Need-returns-3
 returns-3 c = write-put c.before.before.before.before.before.before.before.before.before.args.ledger c.before.before.before.before.before.before.before.before.before.args.out.now c.before.before.put-image.new.1.0 c.before.before.before.before.before.type_size.result (sound c.before.before.before.before.before.before) c.before.before.before.before.before.type_size.ensures (room c.before.before.before.before) c.before.before.put-image.ensures
 
-pub write-image-spec : {M : Type 1} → statement M
-write-image-spec =
+pub write_image_spec : {M : Type 1} → statement M
+write_image_spec =
     tie.close
     (tie.spec
     (λ c κs. search rules)

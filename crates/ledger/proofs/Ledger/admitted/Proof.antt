@@ -6,7 +6,7 @@ use Rattle.rules.specs.declared.Kind.{Kind}
 use Rattle.rules.specs.Request.{Asked}
 use Rattle.rules.specs.Typed.{names_of}
 use Rattle.ledger.specs.Step.{Admitted, ruled}
-use Rattle.ledger.proofs.Whole.{admits-alone, rules-alone}
+use Rattle.ledger.proofs.Whole.{admits_alone, rules-alone}
 use Rattle.ledger.proofs.Ledger.admitted.Statement.{statement}
 use Rattle.ledger.proofs.Ledger.admitted.Tie as tie
 
@@ -14,13 +14,13 @@ fence-requires : tie.Need-fence-requires
 fence-requires c κs =
     let s = c.before.before.before.before in
     let p = s.args.step in
-    admits-alone s.args.self p.time (names_of p.list) s.requires.0 c.before.kind.given.1 refl
+    admits_alone s.args.self p.time (names_of p.list) s.requires.0 c.before.kind.given.1 refl
 
 put-requires : tie.Need-put-requires
 put-requires c κs =
     let s = c.before.before.before.before in
     let p = s.args.step in
-    admits-alone s.args.self p.time (names_of p.list) s.requires.0 c.before.kind2.given.1 refl
+    admits_alone s.args.self p.time (names_of p.list) s.requires.0 c.before.kind2.given.1 refl
 
 commit-requires : tie.Need-commit-requires
 commit-requires c κs =
@@ -32,43 +32,43 @@ compact-requires : tie.Need-compact-requires
 compact-requires c κs =
     let s = c.before.before.before.before in
     let p = s.args.step in
-    admits-alone s.args.self p.time (names_of p.list) s.requires.0 c.before.kind4.given.1 refl
+    admits_alone s.args.self p.time (names_of p.list) s.requires.0 c.before.kind4.given.1 refl
 
 hold-requires : tie.Need-hold-requires
 hold-requires c κs =
     let s = c.before.before.before.before in
     let p = s.args.step in
-    admits-alone s.args.self p.time (names_of p.list) s.requires.0 c.before.kind5.given.1 refl
+    admits_alone s.args.self p.time (names_of p.list) s.requires.0 c.before.kind5.given.1 refl
 
 renew-requires : tie.Need-renew-requires
 renew-requires c κs =
     let s = c.before.before.before.before in
     let p = s.args.step in
-    admits-alone s.args.self p.time (names_of p.list) s.requires.0 c.before.kind6.given.1 refl
+    admits_alone s.args.self p.time (names_of p.list) s.requires.0 c.before.kind6.given.1 refl
 
 release-requires : tie.Need-release-requires
 release-requires c κs =
     let s = c.before.before.before.before in
     let p = s.args.step in
-    admits-alone s.args.self p.time (names_of p.list) s.requires.0 c.before.kind7.given.1 refl
+    admits_alone s.args.self p.time (names_of p.list) s.requires.0 c.before.kind7.given.1 refl
 
 list-requires : tie.Need-list-requires
 list-requires c κs =
     let s = c.before.before.before.before in
     let p = s.args.step in
-    admits-alone s.args.self p.time (names_of p.list) s.requires.0 c.before.kind8.given.1 refl
+    admits_alone s.args.self p.time (names_of p.list) s.requires.0 c.before.kind8.given.1 refl
 
 look-requires : tie.Need-look-requires
 look-requires c κs =
     let s = c.before.before.before.before in
     let p = s.args.step in
-    admits-alone s.args.self p.time (names_of p.list) s.requires.0 c.before.kind9.given.1 refl
+    admits_alone s.args.self p.time (names_of p.list) s.requires.0 c.before.kind9.given.1 refl
 
 collect-requires : tie.Need-collect-requires
 collect-requires c κs =
     let s = c.before.before.before in
     let p = s.args.step in
-    admits-alone s.args.self p.time (names_of p.list) s.requires.0 c.enum_told.given.1 refl
+    admits_alone s.args.self p.time (names_of p.list) s.requires.0 c.enum_told.given.1 refl
 
 returns : tie.Need-returns
 returns c =
@@ -130,8 +130,8 @@ returns-10 c =
     let p = s.args.step in
     c.collect.ensures ∙ rules-alone s.args.self p.time (names_of p.list) s.requires.0 c.before.enum_told.given.1 refl
 
-pub admitted-spec : {M : Type 1} → statement M
-admitted-spec =
+pub admitted_spec : {M : Type 1} → statement M
+admitted_spec =
     tie.close
     (tie.spec
     (λ c. search rules)

@@ -11,18 +11,18 @@ use Rattle.rules.specs.Typed.{names_of}
 use Rattle.rules.proofs.Typed.{padded-room}
 use Rattle.ledger.specs.declared.Ledger.{Ledger}
 use Rattle.ledger.specs.Ledger.{view}
-use Rattle.ledger.specs.Step.{answeredWith}
-use Rattle.ledger.proofs.View.{sound-parts}
-use Rattle.ledger.proofs.Names.{list-long}
-use Rattle.ledger.proofs.Door.{turned-away, taken}
-use Rattle.ledger.proofs.StoreSteps.{commit-clear, commit-comes}
+use Rattle.ledger.specs.Step.{answered_with}
+use Rattle.ledger.proofs.View.{sound_parts}
+use Rattle.ledger.proofs.Names.{list_long}
+use Rattle.ledger.proofs.Door.{turned_away, taken}
+use Rattle.ledger.proofs.StoreSteps.{commit-clear, commit_comes}
 use Rattle.ledger.proofs.Ledger.commit.Statement.{statement}
 use Rattle.ledger.proofs.Ledger.commit.Tie as tie
 
 commit-row-requires : tie.Need-commit-row-requires
 commit-row-requires c κs =
     let s = c.args in
-    (c.requires.0.isSound, omega (arith, padded-room s.list.count s.list.names c.requires.1, list-long s.list _ c.well-formed.1.1.1.1.0))
+    (c.requires.0.is_sound, omega (arith, padded-room s.list.count s.list.names c.requires.1, list_long s.list _ c.well-formed.1.1.1.1.0))
 
 refused-requires : tie.Need-refused-requires
 refused-requires c κs = search rules
@@ -32,10 +32,10 @@ returns c =
     let b = c.before.before in
     let st = b.before in
     let s = st.args in
-    c.refused.ensures ∙ turned-away s.self s.time (COMMIT s.epoch s.slot) (names_of s.list) st.requires.0 _ (b.commit-row.ensures s.time) c.before.if1.true
+    c.refused.ensures ∙ turned_away s.self s.time (COMMIT s.epoch s.slot) (names_of s.list) st.requires.0 _ (b.commit-row.ensures s.time) c.before.if1.true
 
 current-requires : tie.Need-current-requires
-current-requires c κs = let st = c.before.before.before in (sound-parts st.args.self st.requires.0.isSound).manifests
+current-requires c κs = let st = c.before.before.before in (sound_parts st.args.self st.requires.0.is_sound).manifests
 
 -- the next number fits
 next : (c : tie.Else1) → suc (view c.before.before.args.self).current.number < 2 ^ 64
@@ -48,7 +48,7 @@ published-requires : tie.Need-published-requires
 published-requires c κs =
     let e = c.before.before.before in
     let st = e.before.before in
-    record { isSound = st.requires.0.isSound; next = next e; padded = st.requires.1 }
+    record { is_sound = st.requires.0.is_sound; next = next e; padded = st.requires.1 }
 
 accepted-requires : tie.Need-accepted-requires
 accepted-requires c κs = search rules
@@ -61,12 +61,12 @@ returns-2 c =
     let b = e.before in
     let st = b.before in
     let s = st.args in
-    c.accepted.ensures ∙ ap (λ (l : Ledger). answeredWith (alone Done) l) p.published.ensures
-    ∙ commit-comes s.self s.time a.current.ensures s.epoch s.slot (names_of s.list)
+    c.accepted.ensures ∙ ap (λ (l : Ledger). answered_with (alone Done) l) p.published.ensures
+    ∙ commit_comes s.self s.time a.current.ensures s.epoch s.slot (names_of s.list)
     ∙ taken s.self s.time (COMMIT s.epoch s.slot) (names_of s.list) st.requires.0 _ (b.commit-row.ensures s.time) e.if1.false
 
-pub commit-spec : {M : Type 1} → statement M
-commit-spec =
+pub commit_spec : {M : Type 1} → statement M
+commit_spec =
     tie.close
     (tie.spec
     commit-row-requires

@@ -12,10 +12,10 @@ use Rattle.rules.specs.Step.{alone}
 use Rattle.rules.specs.Table.{row17}
 use Rattle.ledger.specs.declared.Ledger.{Ledger}
 use Rattle.ledger.specs.Ledger.{view}
-use Rattle.ledger.specs.Step.{answeredWith}
-use Rattle.ledger.proofs.View.{sound-parts}
-use Rattle.ledger.proofs.Door.{turned-away, taken}
-use Rattle.ledger.proofs.StoreSteps.{compact-clear, compact-comes, compacted-padded, compacted-said}
+use Rattle.ledger.specs.Step.{answered_with}
+use Rattle.ledger.proofs.View.{sound_parts}
+use Rattle.ledger.proofs.Door.{turned_away, taken}
+use Rattle.ledger.proofs.StoreSteps.{compact_clear, compact_comes, compacted-padded, compacted-said}
 use Rattle.ledger.proofs.Ledger.compact.Statement.{statement}
 use Rattle.ledger.proofs.Ledger.compact.Tie as tie
 
@@ -30,21 +30,21 @@ returns c =
     let b = c.before.before in
     let st = b.before in
     let s = st.args in
-    c.refused.ensures ∙ turned-away s.self s.time (COMPACT s.epoch s.slot s.object) [] st.requires _ (b.compact-row.ensures s.time) c.before.if1.true
+    c.refused.ensures ∙ turned_away s.self s.time (COMPACT s.epoch s.slot s.object) [] st.requires _ (b.compact-row.ensures s.time) c.before.if1.true
 
 current-requires : tie.Need-current-requires
-current-requires c κs = let st = c.before.before.before in (sound-parts st.args.self st.requires.isSound).manifests
+current-requires c κs = let st = c.before.before.before in (sound_parts st.args.self st.requires.is_sound).manifests
 
 -- no row applies: the next number fits, and the current list has the object's currency
 clear : (c : tie.Else1) → let s = c.before.before.args in (suc (view s.self).current.number < 2 ^ 64) × (row17 (view s.self) s.object ≡ false)
 clear c =
     let b = c.before in
     let s = b.before.args in
-    let f = compact-clear (view s.self) s.time c.if1.false s.epoch s.slot s.object (b.compact-row.ensures s.time) in
+    let f = compact_clear (view s.self) s.time c.if1.false s.epoch s.slot s.object (b.compact-row.ensures s.time) in
     (omega (arith, f.0, b.before.ranges.slot.fits), f.1)
 
 compacted-requires : tie.Need-compacted-requires
-compacted-requires c κs = let e = c.before.before in (e.before.before.requires.isSound, (clear e).1)
+compacted-requires c κs = let e = c.before.before in (e.before.before.requires.is_sound, (clear e).1)
 
 published-requires : tie.Need-published-requires
 published-requires c κs =
@@ -52,7 +52,7 @@ published-requires c κs =
     let e = d.before.before.before in
     let st = e.before.before in
     let s = st.args in
-    record { isSound = st.requires.isSound; next = (clear e).0; padded = compacted-padded s.self st.requires.isSound s.object (clear e).1 d.compacted.ensures }
+    record { is_sound = st.requires.is_sound; next = (clear e).0; padded = compacted-padded s.self st.requires.is_sound s.object (clear e).1 d.compacted.ensures }
 
 accepted-requires : tie.Need-accepted-requires
 accepted-requires c κs = search rules
@@ -66,13 +66,13 @@ returns-2 c =
     let b = e.before in
     let st = b.before in
     let s = st.args in
-    c.accepted.ensures ∙ ap (λ (l : Ledger). answeredWith (alone Done) l) p.published.ensures
-    ∙ compact-comes s.self s.time a.current.ensures s.epoch s.slot s.object
-    (compacted-said s.self st.requires.isSound s.object (clear e).1 d.compacted.ensures)
+    c.accepted.ensures ∙ ap (λ (l : Ledger). answered_with (alone Done) l) p.published.ensures
+    ∙ compact_comes s.self s.time a.current.ensures s.epoch s.slot s.object
+    (compacted-said s.self st.requires.is_sound s.object (clear e).1 d.compacted.ensures)
     ∙ taken s.self s.time (COMPACT s.epoch s.slot s.object) [] st.requires _ (b.compact-row.ensures s.time) e.if1.false
 
-pub compact-spec : {M : Type 1} → statement M
-compact-spec =
+pub compact_spec : {M : Type 1} → statement M
+compact_spec =
     tie.close
     (tie.spec
     compact-row-requires

@@ -10,64 +10,64 @@ use lib.Dec.{eqb}
 use lib.ListN.{length, take}
 use lib.Seq.{length-take-le}
 use Rattle.rules.specs.Lists.{maximum}
-use Rattle.rules.specs.Table.{row8, row17, fenceRow, slotRow}
-use Rattle.rules.specs.Typed.{isPadded}
+use Rattle.rules.specs.Table.{row8, row17, fence_row, slot_row}
+use Rattle.rules.specs.Typed.{is_padded}
 use Rattle.rules.specs.Words.{stored}
 use Rattle.rules.proofs.Typed.{padded-room}
-use Rattle.objects.specs.Objects.{ofCurrencyIn}
+use Rattle.objects.specs.Objects.{of_currency_in}
 use Rattle.manifests.specs.declared.KeptManifest.{KeptManifest}
 use Rattle.ledger.specs.Ledger.{view}
-use Rattle.ledger.proofs.View.{sized, sound-parts}
-use Rattle.ledger.proofs.Live.{compact-rows}
-use Rattle.ledger.proofs.StoreSteps.{fencedRows, fence-stop, slot-stop, slot-pass, one-stored, highest-row, current-padded}
+use Rattle.ledger.proofs.View.{sized, sound_parts}
+use Rattle.ledger.proofs.Live.{compact_rows}
+use Rattle.ledger.proofs.StoreSteps.{fenced_rows, fence-stop, slot-stop, slot_pass, one-stored, highest-row, current-padded}
 use Rattle.ledger.proofs.Ledger.compact_row.Statement.{statement}
 use Rattle.ledger.proofs.Ledger.compact_row.Tie as tie
 
 current-requires : tie.Need-current-requires
-current-requires c κs = (sound-parts _ c.before.requires).manifests
+current-requires c κs = (sound_parts _ c.before.requires).manifests
 
 fence-row-requires : tie.Need-fence-row-requires
 fence-row-requires c κs = search rules
 
 -- rows 4 and 5
-fenced : (c : tie.After-fence-row) → let s = c.before.before.before.args in c.fence-row.result ≡ fenceRow (view s.self).current.compactorEpoch s.epoch
+fenced : (c : tie.After-fence-row) → let s = c.before.before.before.args in c.fence-row.result ≡ fence_row (view s.self).current.compactor_epoch s.epoch
 fenced c =
     let s = c.before.before.before.args in
-    c.fence-row.ensures ∙ ap (λ (m : KeptManifest). fenceRow m.compactor s.epoch) c.before.current.ensures
+    c.fence-row.ensures ∙ ap (λ (m : KeptManifest). fence_row m.compactor s.epoch) c.before.current.ensures
 
 returns : tie.Need-returns
 returns c t =
     let s = c.before.before.before.before.args in
     let l = view s.self in
-    fence-stop l l.current.compactorEpoch s.epoch s.slot _ (fenced c.before) c.if1.true ∙ sym (compact-rows l t s.epoch s.slot s.object)
+    fence-stop l l.current.compactor_epoch s.epoch s.slot _ (fenced c.before) c.if1.true ∙ sym (compact_rows l t s.epoch s.slot s.object)
 
 slot-row-requires : tie.Need-slot-row-requires
 slot-row-requires c κs = search rules
 
 -- rows 6 and 7
-slotted : (c : tie.After-slot-row) → let s = c.before.before.before.before.before.args in c.slot_row.result ≡ slotRow (view s.self).current.number s.slot
+slotted : (c : tie.After-slot-row) → let s = c.before.before.before.before.before.args in c.slot_row.result ≡ slot_row (view s.self).current.number s.slot
 slotted c =
     let b = c.before.before.before in
     let s = b.before.before.args in
-    c.slot_row.ensures ∙ ap (λ (m : KeptManifest). slotRow m.number s.slot) b.current.ensures
+    c.slot_row.ensures ∙ ap (λ (m : KeptManifest). slot_row m.number s.slot) b.current.ensures
 
 returns-2 : tie.Need-returns-2
 returns-2 c t =
     let b = c.before.before in
     let s = b.before.before.before.before.args in
     let l = view s.self in
-    slot-stop l l.current.compactorEpoch s.epoch s.slot _ (fenced b.before) b.if1.false (slotted c.before) c.if2.true
-    ∙ sym (compact-rows l t s.epoch s.slot s.object)
+    slot-stop l l.current.compactor_epoch s.epoch s.slot _ (fenced b.before) b.if1.false (slotted c.before) c.if2.true
+    ∙ sym (compact_rows l t s.epoch s.slot s.object)
 
 -- past rows 4 to 7
 past : (c : tie.Else2) (rest : ℕ) → let s = c.before.before.before.before.before.before.args in
     let l = view s.self in
-    fencedRows l l.current.compactorEpoch s.epoch s.slot rest ≡ rest
+    fenced_rows l l.current.compactor_epoch s.epoch s.slot rest ≡ rest
 past c rest =
     let b = c.before.before in
     let s = b.before.before.before.before.args in
     let l = view s.self in
-    slot-pass l l.current.compactorEpoch s.epoch s.slot rest (fenced b.before) b.if1.false (slotted c.before) c.if2.false
+    slot_pass l l.current.compactor_epoch s.epoch s.slot rest (fenced b.before) b.if1.false (slotted c.before) c.if2.false
 
 is-stored-requires : tie.Need-is-stored-requires
 is-stored-requires c κs = search rules
@@ -81,7 +81,7 @@ returns-3 : tie.Need-returns-3
 returns-3 c t =
     let b = c.before.before.before in
     let s = b.before.before.before.before.before.before.args in
-    sym (compact-rows (view s.self) t s.epoch s.slot s.object ∙ past b _
+    sym (compact_rows (view s.self) t s.epoch s.slot s.object ∙ past b _
     ∙ (rw (one-stored (view s.self) s.object false (there c.before ∙ not-true _ c.if3.true))))
 
 currency-of-requires : tie.Need-currency-of-requires
@@ -92,7 +92,7 @@ room : (c : tie.After-current) → c.current.result.count ≤ length c.current.r
 room c =
     let st = c.before.before in
     let l = st.args.self in
-    padded-room _ _ (ap (λ (m : KeptManifest). isPadded m.count m.names) c.current.ensures ∙ current-padded l st.requires (sized l _ st.well-formed.0))
+    padded-room _ _ (ap (λ (m : KeptManifest). is_padded m.count m.names) c.current.ensures ∙ current-padded l st.requires (sized l _ st.well-formed.0))
 
 array-share-prefix-names : tie.Need-array-share-prefix-names
 array-share-prefix-names c = room c.before.before.before.before.before.before.before.before.before
@@ -115,13 +115,13 @@ last c =
     let l = st.args.self in
     highest-row l st.requires st.args.object
     ∙ ap (λ (n : ℕ). eqb n 0) (sym (c.highest.ensures
-    ∙ ap₂ (λ (k : ℕ) (m : KeptManifest). maximum (ofCurrencyIn l.objects.items k (take m.count m.names))) d.currency-of.ensures a.current.ensures))
+    ∙ ap₂ (λ (k : ℕ) (m : KeptManifest). maximum (of_currency_in l.objects.items k (take m.count m.names))) d.currency-of.ensures a.current.ensures))
 
 -- past rows 4 to 8
 stands : (c : tie.Else3) (rest : ℕ) → let b = c.before.before.before in
     let s = b.before.before.before.before.before.before.args in
     let l = view s.self in
-    fencedRows l l.current.compactorEpoch s.epoch s.slot (cond (row8 l (s.object ∷ [])) 8 rest) ≡ rest
+    fenced_rows l l.current.compactor_epoch s.epoch s.slot (cond (row8 l (s.object ∷ [])) 8 rest) ≡ rest
 stands c rest =
     let b = c.before.before.before in
     let s = b.before.before.before.before.before.before.args in
@@ -131,16 +131,16 @@ returns-4 : tie.Need-returns-4
 returns-4 c t =
     let e = c.before.before.before.before.before in
     let s = e.before.before.before.before.before.before.before.before.before.args in
-    sym (compact-rows (view s.self) t s.epoch s.slot s.object ∙ stands e _ ∙ (rw (last c.before ∙ eq-eqb _ _ c.if4.true)))
+    sym (compact_rows (view s.self) t s.epoch s.slot s.object ∙ stands e _ ∙ (rw (last c.before ∙ eq-eqb _ _ c.if4.true)))
 
 returns-5 : tie.Need-returns-5
 returns-5 c t =
     let e = c.before.before.before.before.before in
     let s = e.before.before.before.before.before.before.before.before.before.args in
-    sym (compact-rows (view s.self) t s.epoch s.slot s.object ∙ stands e _ ∙ (rw (last c.before ∙ ne_eqb _ _ c.if4.false)))
+    sym (compact_rows (view s.self) t s.epoch s.slot s.object ∙ stands e _ ∙ (rw (last c.before ∙ ne_eqb _ _ c.if4.false)))
 
-pub compact-row-spec : {M : Type 1} → statement M
-compact-row-spec =
+pub compact_row_spec : {M : Type 1} → statement M
+compact_row_spec =
     tie.close
     (tie.spec
     current-requires

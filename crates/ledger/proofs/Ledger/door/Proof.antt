@@ -4,8 +4,8 @@ use mathlib.Core.Path.{◌≡◌, sym, ◌∙◌}
 use mathlib.Core.Bool.{true}
 use borrow.Author.Rules.{rules}
 use borrow.Author.Tests.{lt-ltb, le-ltb, not-true, not-false}
-use Rattle.rules.specs.Typed.{requestOf, canSay}
-use Rattle.ledger.specs.Ledger.{isSound}
+use Rattle.rules.specs.Typed.{request_of, can_say}
+use Rattle.ledger.specs.Ledger.{is_sound}
 use Rattle.ledger.proofs.Ledger.door.Statement.{statement}
 use Rattle.ledger.proofs.Ledger.door.Tie as tie
 
@@ -16,10 +16,10 @@ returns : tie.Need-returns
 returns c = rw (sym c.before.is-sound.ensures ∙ not-true _ c.if1.true)
 
 -- past each test
-sound : (c : tie.Else1) → isSound c.before.before.args.self ≡ true
+sound : (c : tie.Else1) → is_sound c.before.before.args.self ≡ true
 sound c = sym c.before.is-sound.ensures ∙ not-false _ c.if1.false
 
-formed : (c : tie.Else2) → canSay (requestOf c.before.before.before.before.args.step) ≡ true
+formed : (c : tie.Else2) → can_say (request_of c.before.before.before.before.args.step) ≡ true
 formed c = sym c.before.is-well-formed.ensures ∙ not-false _ c.if2.false
 
 is-well-formed-requires : tie.Need-is-well-formed-requires
@@ -38,7 +38,7 @@ returns-4 c =
     let b = c.before.before.before in
     rw (sound b.before.before, formed b, le-ltb _ _ c.if3.false)
 
-pub door-spec : {M : Type 1} → statement M
-door-spec =
+pub door_spec : {M : Type 1} → statement M
+door_spec =
     tie.close
     (tie.spec is-sound-requires returns is-well-formed-requires returns-2 returns-3 returns-4)

@@ -9,14 +9,14 @@ use Rattle.rules.specs.declared.Kind.TheVariants.{Fence as FENCE}
 use Rattle.rules.specs.declared.Answer.TheVariants.{Epoch}
 use Rattle.rules.specs.Request.{Asked}
 use Rattle.rules.specs.Step.{alone, effect, granted}
-use Rattle.rules.specs.Typed.{isPadded}
+use Rattle.rules.specs.Typed.{is_padded}
 use Rattle.manifests.specs.declared.KeptManifest.{KeptManifest}
 use Rattle.ledger.specs.declared.Ledger.{Ledger}
 use Rattle.ledger.specs.Ledger.{lay, view}
-use Rattle.ledger.specs.Step.{Publishable, answeredWith, ruled}
-use Rattle.ledger.proofs.View.{sized, sound-parts}
-use Rattle.ledger.proofs.Door.{turned-away, taken}
-use Rattle.ledger.proofs.StoreSteps.{epochs-few, current-padded, fence-clear, fence-writer, fence-compactor}
+use Rattle.ledger.specs.Step.{Publishable, answered_with, ruled}
+use Rattle.ledger.proofs.View.{sized, sound_parts}
+use Rattle.ledger.proofs.Door.{turned_away, taken}
+use Rattle.ledger.proofs.StoreSteps.{epochs_few, current-padded, fence-clear, fence-writer, fence-compactor}
 use Rattle.ledger.proofs.Ledger.fence.Statement.{statement}
 use Rattle.ledger.proofs.Ledger.fence.Tie as tie
 
@@ -31,10 +31,10 @@ returns c =
     let b = c.before.before in
     let st = b.before in
     let s = st.args in
-    c.refused.ensures ∙ turned-away s.self s.time (FENCE s.role s.slot) [] st.requires _ (b.fence-row.ensures s.time s.role) c.before.if1.true
+    c.refused.ensures ∙ turned_away s.self s.time (FENCE s.role s.slot) [] st.requires _ (b.fence-row.ensures s.time s.role) c.before.if1.true
 
 current-requires : tie.Need-current-requires
-current-requires c κs = let st = c.before.before.before in (sound-parts st.args.self st.requires.isSound).manifests
+current-requires c κs = let st = c.before.before.before in (sound_parts st.args.self st.requires.is_sound).manifests
 
 -- the next number fits
 next : (c : tie.Else1) → suc (view c.before.before.args.self).current.number < 2 ^ 64
@@ -50,16 +50,16 @@ publishable c =
     let st = e.before.before in
     let l = st.args.self in
     record {
-      isSound = st.requires.isSound;
+      is_sound = st.requires.is_sound;
       next = next e;
-      padded = ap (λ (m : KeptManifest). isPadded m.count m.names) c.current.ensures ∙ current-padded l st.requires.isSound (sized l _ st.well-formed.0);
+      padded = ap (λ (m : KeptManifest). is_padded m.count m.names) c.current.ensures ∙ current-padded l st.requires.is_sound (sized l _ st.well-formed.0);
     }
 
 epochs : (c : tie.After-current) → c.current.result.writer + c.current.result.compactor + 1 < 2 ^ 64
 epochs c =
     let e = c.before.before in
     let st = e.before.before in
-    omega (arith, ap (λ (m : KeptManifest). m.writer + m.compactor) c.current.ensures, epochs-few st.args.self st.requires.isSound, next e)
+    omega (arith, ap (λ (m : KeptManifest). m.writer + m.compactor) c.current.ensures, epochs_few st.args.self st.requires.is_sound, next e)
 
 enum_told : tie.Need-enum-told
 enum_told c = search rules
@@ -87,7 +87,7 @@ accepted-requires-2 c κs = search rules
 
 -- no row applies
 accepts : (c : tie.Else1) → let s = c.before.before.args in let q = Asked s.time (FENCE s.role s.slot) [] in
-    answeredWith (granted q (view s.self)) (lay (effect q (view s.self))) ≡ ruled q s.self
+    answered_with (granted q (view s.self)) (lay (effect q (view s.self))) ≡ ruled q s.self
 accepts c =
     let b = c.before in
     let st = b.before in
@@ -101,7 +101,7 @@ returns-2 c =
     let a = k.before.before.before in
     let e = a.before.before in
     let s = e.before.before.args in
-    c.accepted.ensures ∙ ap (λ (l : Ledger). answeredWith (alone (Epoch (a.current.result.writer + 1))) l) p.published.ensures
+    c.accepted.ensures ∙ ap (λ (l : Ledger). answered_with (alone (Epoch (a.current.result.writer + 1))) l) p.published.ensures
     ∙ fence-writer s.self s.time a.current.ensures s.slot ∙ (rw (← k.enum_told.given.1) (accepts e))
 
 returns-3 : tie.Need-returns-3
@@ -111,11 +111,11 @@ returns-3 c =
     let a = k.before.before.before in
     let e = a.before.before in
     let s = e.before.before.args in
-    c.accepted2.ensures ∙ ap (λ (l : Ledger). answeredWith (alone (Epoch (a.current.result.compactor + 1))) l) p.published2.ensures
+    c.accepted2.ensures ∙ ap (λ (l : Ledger). answered_with (alone (Epoch (a.current.result.compactor + 1))) l) p.published2.ensures
     ∙ fence-compactor s.self s.time a.current.ensures s.slot ∙ (rw (← k.enum-told2.given.1) (accepts e))
 
-pub fence-spec : {M : Type 1} → statement M
-fence-spec =
+pub fence_spec : {M : Type 1} → statement M
+fence_spec =
     tie.close
     (tie.spec
     fence-row-requires

@@ -22,5 +22,5 @@ returns c = λ i. record {
   holds = c.none2.ensures i;
 }
 
-pub fresh-spec : {M : Type 1} → statement M
-fresh-spec = tie.close (tie.spec none-requires first-requires none-requires-2 returns)
+pub fresh_spec : {M : Type 1} → statement M
+fresh_spec = tie.close (tie.spec none-requires first-requires none-requires-2 returns)

@@ -7,8 +7,8 @@ use borrow.Author.Rules.{rules}
 use lib.Seq.{length-take-le}
 use Rattle.rules.specs.declared.Kind.TheVariants.{Look as LOOK}
 use Rattle.ledger.specs.Ledger.{view}
-use Rattle.ledger.proofs.Door.{turned-away}
-use Rattle.ledger.proofs.HoldSteps.{read-room, look-away, look_none, look-found}
+use Rattle.ledger.proofs.Door.{turned_away}
+use Rattle.ledger.proofs.HoldSteps.{read-room, look_away, look_none, look-found}
 use Rattle.ledger.proofs.Ledger.look.Statement.{statement}
 use Rattle.ledger.proofs.Ledger.look.Tie as tie
 
@@ -24,8 +24,8 @@ returns c =
     let st = w.before in
     let s = st.args in
     c.refused.ensures
-    ∙ turned-away s.self s.time (LOOK s.currency s.hold) [] st.requires w.live-row.result
-    (look-away (view s.self) s.time s.currency s.hold w.live-row.result w.live-row.ensures c.before.if1.true) c.before.if1.true
+    ∙ turned_away s.self s.time (LOOK s.currency s.hold) [] st.requires w.live-row.result
+    (look_away (view s.self) s.time s.currency s.hold w.live-row.result w.live-row.ensures c.before.if1.true) c.before.if1.true
 
 read-by-requires : tie.Need-read-by-requires
 read-by-requires c κs = search rules
@@ -34,13 +34,13 @@ array-share-prefix-names : tie.Need-array-share-prefix-names
 array-share-prefix-names c =
     let m = c.before.before in
     let st = m.before.before.before in
-    read-room st.args.self st.requires.isSound st.args.time st.args.hold m.read_by_lem.ensures
+    read-room st.args.self st.requires.is_sound st.args.time st.args.hold m.read_by_lem.ensures
 
 slice-aggregate-highest : tie.Need-slice-aggregate-highest
 slice-aggregate-highest c =
     let m = c.before.before.before in
     let st = m.before.before.before in
-    sym (length-take-le _ _ (read-room st.args.self st.requires.isSound st.args.time st.args.hold m.read_by_lem.ensures))
+    sym (length-take-le _ _ (read-room st.args.self st.requires.is_sound st.args.time st.args.hold m.read_by_lem.ensures))
 
 highest-requires : tie.Need-highest-requires
 highest-requires c κs = search rules
@@ -57,8 +57,8 @@ returns-2 c =
     let st = w.before in
     let s = st.args in
     c.refused2.ensures
-    ∙ turned-away s.self s.time (LOOK s.currency s.hold) [] st.requires 16
-    (look_none s.self st.requires.isSound s.time s.currency s.hold m.read_by_lem.ensures h.highest.result h.highest.ensures w.live-row.result w.live-row.ensures n.if1.false
+    ∙ turned_away s.self s.time (LOOK s.currency s.hold) [] st.requires 16
+    (look_none s.self st.requires.is_sound s.time s.currency s.hold m.read_by_lem.ensures h.highest.result h.highest.ensures w.live-row.result w.live-row.ensures n.if1.false
     c.before.if2.true)
     (λ z. omega (arith, z))
 
@@ -78,7 +78,7 @@ returns-3 c =
     let st = w.before in
     let s = st.args in
     c.accepted.ensures
-    ∙ look-found s.self st.requires.isSound s.time s.currency s.hold m.read_by_lem.ensures h.highest.result h.highest.ensures w.live-row.result w.live-row.ensures n.if1.false st.requires
+    ∙ look-found s.self st.requires.is_sound s.time s.currency s.hold m.read_by_lem.ensures h.highest.result h.highest.ensures w.live-row.result w.live-row.ensures n.if1.false st.requires
     e.if2.false c.before.settled.ensures
 
 pub look_spec : {M : Type 1} → statement M

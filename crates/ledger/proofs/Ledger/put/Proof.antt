@@ -9,15 +9,15 @@ use Rattle.rules.specs.declared.Kind.TheVariants.{Put as PUT}
 use Rattle.rules.specs.declared.Answer.TheVariants.{Done}
 use Rattle.rules.specs.declared.Object.{Object}
 use Rattle.rules.specs.Step.{alone, place}
-use Rattle.rules.specs.Table.{wellFormed}
+use Rattle.rules.specs.Table.{well_formed}
 use Rattle.rules.proofs.Lists.{conj-true}
-use Rattle.objects.specs.Objects.{layPlaces}
+use Rattle.objects.specs.Objects.{lay_places}
 use Rattle.objects.proofs.Places as places
 use Rattle.ledger.specs.declared.Ledger.{Ledger}
 use Rattle.ledger.specs.Ledger.{view}
-use Rattle.ledger.specs.Step.{answeredWith}
-use Rattle.ledger.proofs.Door.{turned-away, taken}
-use Rattle.ledger.proofs.StoreSteps.{put-clear, put-comes}
+use Rattle.ledger.specs.Step.{answered_with}
+use Rattle.ledger.proofs.Door.{turned_away, taken}
+use Rattle.ledger.proofs.StoreSteps.{put-clear, put_comes}
 use Rattle.ledger.proofs.Ledger.put.Statement.{statement}
 use Rattle.ledger.proofs.Ledger.put.Tie as tie
 
@@ -32,13 +32,13 @@ returns c =
     let b = c.before.before in
     let st = b.before in
     let s = st.args in
-    c.refused.ensures ∙ turned-away s.self s.time (PUT s.role s.epoch s.object s.currency) [] st.requires _ (b.put-row.ensures s.time s.currency) c.before.if1.true
+    c.refused.ensures ∙ turned_away s.self s.time (PUT s.role s.epoch s.object s.currency) [] st.requires _ (b.put-row.ensures s.time s.currency) c.before.if1.true
 
 settled-requires : tie.Need-settled-requires
 settled-requires c κs = search rules
 
 put-requires : tie.Need-put-requires
-unfolding wellFormed
+unfolding well_formed
 put-requires c κs =
     let d = c.before in
     let e = d.before in
@@ -61,14 +61,14 @@ returns-2 c =
     let s = st.args in
     let o : Object = record { number = s.object; role = s.role; epoch = s.epoch; currency = s.currency; named = false } in
     c.accepted.ensures
-    ∙ (λ i. answeredWith (alone Done) (record {
+    ∙ (λ i. answered_with (alone Done) (record {
       clock = (d.settled.ensures i).clock;
       collected = (d.settled.ensures i).collected;
-      objects = (p.put.ensures ∙ ap (λ (l : Ledger). layPlaces (place o l.objects.items)) d.settled.ensures) i;
+      objects = (p.put.ensures ∙ ap (λ (l : Ledger). lay_places (place o l.objects.items)) d.settled.ensures) i;
       manifests = (d.settled.ensures i).manifests;
       holds = (d.settled.ensures i).holds;
     }))
-    ∙ put-comes s.self s.time s.role s.epoch s.object s.currency
+    ∙ put_comes s.self s.time s.role s.epoch s.object s.currency
     ∙ taken s.self s.time (PUT s.role s.epoch s.object s.currency) [] st.requires _ (b.put-row.ensures s.time s.currency) e.if1.false
 
 pub put_spec : {M : Type 1} → statement M

@@ -6,21 +6,21 @@ use Prim.Native.Nat.{ℕ}
 use native.Mathlib.Omega.{arith}
 use borrow.Author.Rules.{rules}
 use borrow.Author.Tests.{lt-leb, le-leb}
-use Rattle.rules.specs.State.{epochOf}
-use Rattle.rules.specs.Table.{row4, epochRow}
+use Rattle.rules.specs.State.{epoch_of}
+use Rattle.rules.specs.Table.{row4, epoch_row}
 use Rattle.rules.specs.Words.{stored}
-use Rattle.objects.specs.Objects.{roleEpoch}
+use Rattle.objects.specs.Objects.{role_epoch}
 use Rattle.manifests.specs.declared.KeptManifest.{KeptManifest}
-use Rattle.manifests.specs.Manifests.{currentOf}
+use Rattle.manifests.specs.Manifests.{current_of}
 use Rattle.ledger.specs.Ledger.{view}
-use Rattle.ledger.proofs.View.{sound-parts}
+use Rattle.ledger.proofs.View.{sound_parts}
 use Rattle.ledger.proofs.Live.{put-rows}
-use Rattle.ledger.proofs.StoreSteps.{one-stop, one-pass, role-epoch}
+use Rattle.ledger.proofs.StoreSteps.{one-stop, one_pass, role_epoch_lem}
 use Rattle.ledger.proofs.Ledger.put_row.Statement.{statement}
 use Rattle.ledger.proofs.Ledger.put_row.Tie as tie
 
 current-requires : tie.Need-current-requires
-current-requires c κs = (sound-parts _ c.before.requires).manifests
+current-requires c κs = (sound_parts _ c.before.requires).manifests
 
 epoch-of-requires : tie.Need-epoch-of-requires
 epoch-of-requires c κs = search rules
@@ -29,25 +29,25 @@ epoch-row-requires : tie.Need-epoch-row-requires
 epoch-row-requires c κs = search rules
 
 -- row 4 of the role's epoch
-fourth : (c : tie.After-epoch-row) → let s = c.before.before.before.before.args in c.epoch-row.result ≡ epochRow (epochOf s.role (view s.self).current) s.epoch
+fourth : (c : tie.After-epoch-row) → let s = c.before.before.before.before.args in c.epoch-row.result ≡ epoch_row (epoch_of s.role (view s.self).current) s.epoch
 fourth c =
     let b = c.before.before in
     let s = b.before.before.args in
     c.epoch-row.ensures
-    ∙ ap (λ (n : ℕ). epochRow n s.epoch)
-    (c.before.epoch-of.ensures ∙ ap (λ (m : KeptManifest). roleEpoch s.role m.writer m.compactor) b.current.ensures ∙ role-epoch s.role (currentOf s.self.manifests))
+    ∙ ap (λ (n : ℕ). epoch_row n s.epoch)
+    (c.before.epoch-of.ensures ∙ ap (λ (m : KeptManifest). role_epoch s.role m.writer m.compactor) b.current.ensures ∙ role_epoch_lem s.role (current_of s.self.manifests))
 
 returns : tie.Need-returns
 returns c t k =
     let s = c.before.before.before.before.before.args in
-    fourth c.before ∙ one-stop 3 _ (row4 (epochOf s.role (view s.self).current) s.epoch) (λ z. c.if1.true (fourth c.before ∙ z))
+    fourth c.before ∙ one-stop 3 _ (row4 (epoch_of s.role (view s.self).current) s.epoch) (λ z. c.if1.true (fourth c.before ∙ z))
     ∙ sym (put-rows (view s.self) t s.role s.epoch s.object k)
 
 -- past row 4
-past : (c : tie.Else1) (rest : ℕ) → let s = c.before.before.before.before.before.args in cond (row4 (epochOf s.role (view s.self).current) s.epoch) 4 rest ≡ rest
+past : (c : tie.Else1) (rest : ℕ) → let s = c.before.before.before.before.before.args in cond (row4 (epoch_of s.role (view s.self).current) s.epoch) 4 rest ≡ rest
 past c rest =
     let s = c.before.before.before.before.before.args in
-    one-pass 3 rest (row4 (epochOf s.role (view s.self).current) s.epoch) (sym (fourth c.before) ∙ c.if1.false)
+    one_pass 3 rest (row4 (epoch_of s.role (view s.self).current) s.epoch) (sym (fourth c.before) ∙ c.if1.false)
 
 is-stored-requires : tie.Need-is-stored-requires
 is-stored-requires c κs = search rules
@@ -71,7 +71,7 @@ returns-3 c t k =
     sym (put-rows (view s.self) t s.role s.epoch s.object k ∙ past b _ ∙ (rw (there e.before ∙ e.if2.false, le-leb s.object s.self.collected (omega (arith, c.if3.true)))))
 
 is-full-requires : tie.Need-is-full-requires
-is-full-requires c κs = (sound-parts _ c.before.before.before.before.before.before.before.before.before.before.requires).objects
+is-full-requires c κs = (sound_parts _ c.before.before.before.before.before.before.before.before.before.before.requires).objects
 
 returns-4 : tie.Need-returns-4
 returns-4 c t k =
@@ -91,8 +91,8 @@ returns-5 c t k =
     sym (put-rows (view s.self) t s.role s.epoch s.object k ∙ past b _
     ∙ (rw (there e.before ∙ e.if2.false, lt-leb s.object s.self.collected (omega (arith, d.if3.false)), sym c.before.is-full.ensures ∙ c.if4.false)))
 
-pub put-row-spec : {M : Type 1} → statement M
-put-row-spec =
+pub put_row_spec : {M : Type 1} → statement M
+put_row_spec =
     tie.close
     (tie.spec
     current-requires

@@ -2,7 +2,7 @@
 -- Assumes nothing.
 use mathlib.Core.Path.{sym, ◌∙◌}
 use borrow.Author.Tests.{not-true, not-false}
-use Rattle.ledger.proofs.Whole.{unsound-refused, unreadable-refused}
+use Rattle.ledger.proofs.Whole.{unsound-refused, unreadable_refused}
 use Rattle.ledger.proofs.Ledger.refuse_unreadable.Statement.{statement}
 use Rattle.ledger.proofs.Ledger.refuse_unreadable.Tie as tie
 
@@ -14,7 +14,7 @@ returns c =
 returns-2 : tie.Need-returns-2
 returns-2 c =
     let b = c.before.before in
-    c.refused2.ensures ∙ unreadable-refused b.before.args.self (sym b.is-sound.ensures ∙ not-false _ c.before.if1.false)
+    c.refused2.ensures ∙ unreadable_refused b.before.args.self (sym b.is-sound.ensures ∙ not-false _ c.before.if1.false)
 
-pub refuse-unreadable-spec : {M : Type 1} → statement M
-refuse-unreadable-spec = tie.close (tie.spec (λ c κs. tt) (λ c κs. tt) returns (λ c κs. tt) returns-2)
+pub refuse_unreadable_spec : {M : Type 1} → statement M
+refuse_unreadable_spec = tie.close (tie.spec (λ c κs. tt) (λ c κs. tt) returns (λ c κs. tt) returns-2)

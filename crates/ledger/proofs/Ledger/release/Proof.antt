@@ -7,14 +7,14 @@ use borrow.Author.Rules.{rules}
 use Rattle.rules.specs.declared.Kind.TheVariants.{Release as RELEASE}
 use Rattle.rules.specs.Lists.{keep}
 use Rattle.rules.specs.Step.{act, answers, other}
-use Rattle.rules.specs.Words.{liveHolds}
+use Rattle.rules.specs.Words.{live_holds}
 use Rattle.rules.proofs.Numbers.{keep-length}
 use Rattle.holds.proofs.Places as holds
 use Rattle.ledger.specs.Ledger.{view}
-use Rattle.ledger.proofs.View.{sound-parts}
-use Rattle.ledger.proofs.Door.{turned-away}
+use Rattle.ledger.proofs.View.{sound_parts}
+use Rattle.ledger.proofs.Door.{turned_away}
 use Rattle.ledger.proofs.Live.{live-few, live-short, live-rows}
-use Rattle.ledger.proofs.HoldSteps.{changed-laid, done}
+use Rattle.ledger.proofs.HoldSteps.{changed_laid, done}
 use Rattle.ledger.proofs.Ledger.release.Statement.{statement}
 use Rattle.ledger.proofs.Ledger.release.Tie as tie
 
@@ -29,23 +29,23 @@ returns c =
     let w = c.before.before in
     let st = w.before in
     let s = st.args in
-    c.refused.ensures ∙ turned-away s.self s.time (RELEASE s.hold) [] st.requires w.live-row.result (w.live-row.ensures ∙ sym (live-rows (view s.self) s.time s.hold 0).1) c.before.if1.true
+    c.refused.ensures ∙ turned_away s.self s.time (RELEASE s.hold) [] st.requires w.live-row.result (w.live-row.ensures ∙ sym (live-rows (view s.self) s.time s.hold 0).1) c.before.if1.true
 
 live-requires : tie.Need-live-requires
-live-requires c κs = let st = c.before.before.before in holds.few st.args.self.holds (sound-parts st.args.self st.requires.isSound).holds
+live-requires c κs = let st = c.before.before.before in holds.few st.args.self.holds (sound_parts st.args.self st.requires.is_sound).holds
 
 release-requires : tie.Need-release-requires
-release-requires c κs = let st = c.before.before.before.before in live-few st.args.self st.requires.isSound st.args.time c.live.ensures
+release-requires c κs = let st = c.before.before.before.before in live-few st.args.self st.requires.is_sound st.args.time c.live.ensures
 
 holding-requires : tie.Need-holding-requires
 holding-requires c κs =
     let a = c.before in
     let st = a.before.before.before.before in
     let s = st.args in
-    let xs = liveHolds s.time (view s.self) in (
-      st.requires.isSound,
-      changed-laid s.time s.self (keep (other s.hold)) a.live.ensures c.release.ensures
-          (omega (arith, keep-length (other s.hold) xs, live-short s.self st.requires.isSound s.time a.live.ensures)),
+    let xs = live_holds s.time (view s.self) in (
+      st.requires.is_sound,
+      changed_laid s.time s.self (keep (other s.hold)) a.live.ensures c.release.ensures
+          (omega (arith, keep-length (other s.hold) xs, live-short s.self st.requires.is_sound s.time a.live.ensures)),
     )
 
 accepted-requires : tie.Need-accepted-requires

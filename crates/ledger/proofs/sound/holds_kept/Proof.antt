@@ -11,18 +11,18 @@ use lib.Seq.{slice}
 use Rattle.rules.specs.declared.Hold.{Hold}
 use Rattle.rules.specs.Limits.{limits}
 use Rattle.rules.specs.Lists.{all}
-use Rattle.arrays.proofs.Scan.{scan-next, scan-stop, scan-end, all-hit, all-miss}
-use Rattle.holds.specs.Holds.{noHold}
-use Rattle.holds.proofs.Places.{items-long}
+use Rattle.arrays.proofs.Scan.{scan_next, scan_stop, scan_end, all_hit, all-miss}
+use Rattle.holds.specs.Holds.{no_hold}
+use Rattle.holds.proofs.Places.{items_long}
 use Rattle.manifests.specs.declared.Manifests.{Manifests}
-use Rattle.manifests.specs.Manifests.{manifestsOf}
-use Rattle.ledger.specs.Parts.{holdKept}
+use Rattle.manifests.specs.Manifests.{manifests_of}
+use Rattle.ledger.specs.Parts.{hold_kept}
 use Rattle.ledger.proofs.sound.holds_kept.Statement.{statement}
 use Rattle.ledger.proofs.sound.holds_kept.Tie as tie
 
 -- what is asked of the holds
 abbrev asked : Manifests → List Hold → Bool
-asked ms = all (holdKept (manifestsOf ms))
+asked ms = all (hold_kept (manifests_of ms))
 
 abbrev invariant-loop : tie.invariant-loop
 invariant-loop manifests holds count i₀ i =
@@ -32,7 +32,7 @@ abbrev decreases-loop : tie.decreases-loop
 decreases-loop manifests holds count i₀ i = count - i
 
 loop-holds : tie.Need-loop-init invariant-loop decreases-loop
-loop-holds c = (omega arith, c.requires.1, refl, items-long c.args.t1 _ c.well-formed.0, refl)
+loop-holds c = (omega arith, c.requires.1, refl, items_long c.args.t1 _ c.well-formed.0, refl)
 
 mul-h : tie.Need-overflow-mul-h invariant-loop decreases-loop
 mul-h c = omega arith
@@ -48,7 +48,7 @@ returns c =
     let a = c.before.before.before.before in
     let s = a.before.args in
     let h = a.loop.invariant in
-    scan-stop s.t1.items s.t1.count (asked s.manifests) h.4 noHold (omega arith) (omega arith) false (all-miss _ _ _ (sym c.before.has-number.ensures ∙ not-true _ c.if1.true))
+    scan_stop s.t1.items s.t1.count (asked s.manifests) h.4 no_hold (omega arith) (omega arith) false (all-miss _ _ _ (sym c.before.has-number.ensures ∙ not-true _ c.if1.true))
 
 add-i : tie.Need-overflow-add-i invariant-loop decreases-loop
 add-i c = omega arith
@@ -62,17 +62,17 @@ loop-again c =
     let s = a.before.args in
     let h = a.loop.invariant in
     let ask = asked s.manifests in
-    (omega arith, h.1, h.2, h.3, scan-next s.t1.items s.t1.count ask h.4 noHold (omega arith) (omega arith) ask (all-hit _ _ _ (sym c.before.has-number.ensures ∙ not-false _ c.if1.false)))
+    (omega arith, h.1, h.2, h.3, scan_next s.t1.items s.t1.count ask h.4 no_hold (omega arith) (omega arith) ask (all_hit _ _ _ (sym c.before.has-number.ensures ∙ not-false _ c.if1.false)))
 
 returns-2 : tie.Need-returns-2 invariant-loop decreases-loop
 unfolding all
 returns-2 c =
     let s = c.before.before.args in
     let e : c.before.loop.i ≡ s.t1.count = omega arith in
-    scan-end s.t1.items s.t1.count (asked s.manifests) (rw e at c.before.loop.invariant.4)
+    scan_end s.t1.items s.t1.count (asked s.manifests) (rw e at c.before.loop.invariant.4)
 
-pub holds-kept-spec : {M : Type 1} → statement M
-holds-kept-spec =
+pub holds_kept_spec : {M : Type 1} → statement M
+holds_kept_spec =
     tie.close
     (tie.spec
     invariant-loop

@@ -18,12 +18,12 @@ use Rattle.manifests.specs.contracts.KeptManifest as kept
 use Rattle.ledger.proofs.sound.list_sound.Statement.{statement}
 use Rattle.ledger.proofs.sound.list_sound.Tie as tie
 
-names-long : (m : KeptManifest) (vs : List Val) → Is kept.the_row m vs → length m.names ≡ limits.names
-names-long m vs is = sym (length-map m.names (λ (v : ℕ). v)) ∙ is.1.1.1.1.1.1.0.1.0.1
+names_long : (m : KeptManifest) (vs : List Val) → Is kept.the_row m vs → length m.names ≡ limits.names
+names_long m vs is = sym (length-map m.names (λ (v : ℕ). v)) ∙ is.1.1.1.1.1.1.0.1.0.1
 
 -- the list stands in its places
 room : (c : tie.Start) → c.args.manifest.count ≤ length c.args.manifest.names
-room c = omega (arith, c.requires, names-long c.args.manifest _ c.well-formed.0)
+room c = omega (arith, c.requires, names_long c.args.manifest _ c.well-formed.0)
 
 array-share-prefix-names : tie.Need-array-share-prefix-names
 array-share-prefix-names c = room c.before.before
@@ -51,8 +51,8 @@ returns-2 : tie.Need-returns-2
 unfolding conj
 returns-2 c = rw (sym c.before.before.before.is-rising.ensures ∙ not-false _ c.before.before.if1.false, and-true) c.All-among.ensures
 
-pub list-sound-spec : {M : Type 1} → statement M
-list-sound-spec =
+pub list_sound_spec : {M : Type 1} → statement M
+list_sound_spec =
     tie.close
     (tie.spec
     array-share-prefix-names

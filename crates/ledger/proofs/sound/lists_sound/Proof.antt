@@ -9,33 +9,33 @@ use borrow.Author.Rules.{rules}
 use borrow.Author.Tests.{not-true, not-false}
 use lib.ListN.{take}
 use lib.Seq.{slice}
-use Rattle.rules.specs.Limits.{limits, manifestLimit}
+use Rattle.rules.specs.Limits.{limits, manifest_limit}
 use Rattle.rules.specs.declared.Object.{Object}
-use Rattle.rules.specs.Lists.{all, conj, risingAbove}
-use Rattle.arrays.proofs.Scan.{scan-next, scan-stop, scan-end, all-hit, all-miss}
+use Rattle.rules.specs.Lists.{all, conj, rising_above}
+use Rattle.arrays.proofs.Scan.{scan_next, scan_stop, scan_end, all_hit, all-miss}
 use Rattle.objects.specs.Objects.{among, named_at}
 use Rattle.objects.proofs.Places.{named-among}
 use Rattle.manifests.specs.declared.KeptManifest.{KeptManifest}
-use Rattle.manifests.specs.Manifests.{pastEnd}
+use Rattle.manifests.specs.Manifests.{past_end}
 use Rattle.manifests.proofs.Places.{Long, long, few, names-few}
-use Rattle.ledger.specs.Parts.{listSound, listSoundBy}
+use Rattle.ledger.specs.Parts.{list_sound, list_sound_by}
 use Rattle.ledger.proofs.SoundParts.{all_same}
 use Rattle.ledger.proofs.sound.lists_sound.Statement.{statement}
 use Rattle.ledger.proofs.sound.lists_sound.Tie as tie
 
 -- what is asked of the places
 abbrev asked : List ℕ → List KeptManifest → Bool
-asked named = all (listSoundBy named)
+asked named = all (list_sound_by named)
 
 -- by the objects themselves
-asked-same : (named : List ℕ) (ps : List Object) → named ≡ named_at ps → (ms : List KeptManifest) → asked named ms ≡ all (listSound ps) ms
-unfolding listSound conj
-asked-same named ps e ms = all_same _ _ ms (λ m i. ap (λ (b : Bool). risingAbove 0 (take m.count m.names) && (b && true))
+asked-same : (named : List ℕ) (ps : List Object) → named ≡ named_at ps → (ms : List KeptManifest) → asked named ms ≡ all (list_sound ps) ms
+unfolding list_sound conj
+asked-same named ps e ms = all_same _ _ ms (λ m i. ap (λ (b : Bool). rising_above 0 (take m.count m.names) && (b && true))
     (all_same _ _ (take m.count m.names) (λ n j. ap (λ (ns : List ℕ). among ns n) e ∙ sym (named-among ps n))))
 
 abbrev invariant-loop : tie.invariant-loop
 invariant-loop manifests named count i₀ i =
-    (i ≤ count) × (count ≤ manifestLimit limits) × (count ≡ manifests.count) × Long manifests × (asked named (slice i count manifests.items) ≡ asked named (take count manifests.items))
+    (i ≤ count) × (count ≤ manifest_limit limits) × (count ≡ manifests.count) × Long manifests × (asked named (slice i count manifests.items) ≡ asked named (take count manifests.items))
 
 abbrev decreases-loop : tie.decreases-loop
 decreases-loop manifests named count i₀ i = count - i
@@ -61,7 +61,7 @@ returns c =
     let n = a.before in
     let s = n.before.args in
     let h = a.loop.invariant in
-    scan-stop s.t1.items s.t1.count (asked n.named.result) h.4 pastEnd (omega arith) (omega (arith, h.3.items)) false (all-miss _ _ _ (sym c.before.list-sound.ensures ∙ not-true _ c.if1.true))
+    scan_stop s.t1.items s.t1.count (asked n.named.result) h.4 past_end (omega arith) (omega (arith, h.3.items)) false (all-miss _ _ _ (sym c.before.list-sound.ensures ∙ not-true _ c.if1.true))
     ∙ asked-same n.named.result s.objects.items n.named.ensures (take s.t1.count s.t1.items)
 
 add-i : tie.Need-overflow-add-i invariant-loop decreases-loop
@@ -76,7 +76,7 @@ loop-again c =
     let s = a.before.before.args in
     let h = a.loop.invariant in
     let ask = asked a.before.named.result in
-    (omega arith, h.1, h.2, h.3, scan-next s.t1.items s.t1.count ask h.4 pastEnd (omega arith) (omega (arith, h.3.items)) ask (all-hit _ _ _ (sym c.before.list-sound.ensures ∙ not-false _ c.if1.false)))
+    (omega arith, h.1, h.2, h.3, scan_next s.t1.items s.t1.count ask h.4 past_end (omega arith) (omega (arith, h.3.items)) ask (all_hit _ _ _ (sym c.before.list-sound.ensures ∙ not-false _ c.if1.false)))
 
 returns-2 : tie.Need-returns-2 invariant-loop decreases-loop
 unfolding all
@@ -84,11 +84,11 @@ returns-2 c =
     let n = c.before.before in
     let s = n.before.args in
     let e : c.before.loop.i ≡ s.t1.count = omega arith in
-    scan-end s.t1.items s.t1.count (asked n.named.result) (rw e at c.before.loop.invariant.4)
+    scan_end s.t1.items s.t1.count (asked n.named.result) (rw e at c.before.loop.invariant.4)
     ∙ asked-same n.named.result s.objects.items n.named.ensures (take s.t1.count s.t1.items)
 
-pub lists-sound-spec : {M : Type 1} → statement M
-lists-sound-spec =
+pub lists_sound_spec : {M : Type 1} → statement M
+lists_sound_spec =
     tie.close
     (tie.spec
     invariant-loop

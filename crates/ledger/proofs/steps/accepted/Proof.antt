@@ -10,5 +10,5 @@ verdict-alone-requires c κs = search rules
 returns : tie.Need-returns
 returns c = λ i. record { verdict = c.verdict-alone.ensures i; ledger = c.before.args.ledger }
 
-pub accepted-spec : {M : Type 1} → statement M
-accepted-spec = tie.close (tie.spec verdict-alone-requires returns)
+pub accepted_spec : {M : Type 1} → statement M
+accepted_spec = tie.close (tie.spec verdict-alone-requires returns)

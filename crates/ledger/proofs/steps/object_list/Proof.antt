@@ -55,8 +55,8 @@ returns c =
       objects = (a.loop.invariant.2 ∙ ap (pad limits.places 0) (map-id (take a.loop.i names) ∙ take_all a.loop.i names (omega arith)) ∙ sym (padded-pad limits.places names a.loop.invariant.1)) j;
     }
 
-pub object-list-spec : {M : Type 1} → statement M
-object-list-spec =
+pub object_list_spec : {M : Type 1} → statement M
+object_list_spec =
     tie.close
     (tie.spec
     invariant-loop

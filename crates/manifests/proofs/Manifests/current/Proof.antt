@@ -18,5 +18,5 @@ element-copy-out-result c = omega (arith, some c.args.t1 c.requires, few c.args.
 returns : tie.Need-returns
 returns c = search rules
 
-pub current-spec : {M : Type 1} → statement M
-current-spec = tie.close (tie.spec sub-last mul-result element-copy-out-result returns)
+pub current_spec : {M : Type 1} → statement M
+current_spec = tie.close (tie.spec sub-last mul-result element-copy-out-result returns)

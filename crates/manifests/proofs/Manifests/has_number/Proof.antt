@@ -9,23 +9,23 @@ use borrow.Author.Tests.{eq-eqb, ne_eqb}
 use lib.Dec.{eqb}
 use lib.ListN.{length, take}
 use lib.Seq.{slice}
-use Rattle.rules.specs.Limits.{limits, manifestLimit}
+use Rattle.rules.specs.Limits.{limits, manifest_limit}
 use Rattle.rules.specs.Lists.{any}
 use Rattle.rules.specs.State.{Manifest}
-use Rattle.arrays.proofs.Scan.{scan-next, scan-stop, scan-end, any-hit, any-miss}
+use Rattle.arrays.proofs.Scan.{scan_next, scan_stop, scan_end, any_hit, any-miss}
 use Rattle.manifests.specs.declared.KeptManifest.{KeptManifest}
-use Rattle.manifests.specs.Manifests.{manifestOf, pastEnd}
+use Rattle.manifests.specs.Manifests.{manifest_of, past_end}
 use Rattle.manifests.proofs.Places.{long, few}
 use Rattle.manifests.proofs.Manifests.has_number.Statement.{statement}
 use Rattle.manifests.proofs.Manifests.has_number.Tie as tie
 
 -- what is asked of the places
 abbrev asked : ℕ → List KeptManifest → Bool
-asked number ms = any (λ (m : Manifest). eqb number m.number) (map manifestOf ms)
+asked number ms = any (λ (m : Manifest). eqb number m.number) (map manifest_of ms)
 
 abbrev invariant-loop : tie.invariant-loop
 invariant-loop number self count i₀ i =
-    (i ≤ count) × (count ≤ manifestLimit limits) × (count ≡ self.count) × (length self.items ≡ manifestLimit limits) × (asked number (slice i count self.items) ≡ asked number (take count self.items))
+    (i ≤ count) × (count ≤ manifest_limit limits) × (count ≡ self.count) × (length self.items ≡ manifest_limit limits) × (asked number (slice i count self.items) ≡ asked number (take count self.items))
 
 abbrev decreases-loop : tie.decreases-loop
 decreases-loop number self count i₀ i = count - i
@@ -44,7 +44,7 @@ returns c =
     let a = c.before.before.before.before in
     let s = a.before.args in
     let h = a.loop.invariant in
-    scan-stop s.t1.items s.t1.count (asked s.number) h.4 pastEnd (omega arith) (omega arith) true (any-hit _ _ _ (eq-eqb _ _ (sym c.if1.true)))
+    scan_stop s.t1.items s.t1.count (asked s.number) h.4 past_end (omega arith) (omega arith) true (any_hit _ _ _ (eq-eqb _ _ (sym c.if1.true)))
 
 add-i : tie.Need-overflow-add-i invariant-loop decreases-loop
 add-i c = omega arith
@@ -58,17 +58,17 @@ loop-again c =
     let s = a.before.args in
     let h = a.loop.invariant in
     let ask = asked s.number in
-    (omega arith, h.1, h.2, h.3, scan-next s.t1.items s.t1.count ask h.4 pastEnd (omega arith) (omega arith) ask (any-miss _ _ _ (ne_eqb _ _ (λ e. c.if1.false (sym e)))))
+    (omega arith, h.1, h.2, h.3, scan_next s.t1.items s.t1.count ask h.4 past_end (omega arith) (omega arith) ask (any-miss _ _ _ (ne_eqb _ _ (λ e. c.if1.false (sym e)))))
 
 returns-2 : tie.Need-returns-2 invariant-loop decreases-loop
 unfolding any
 returns-2 c =
     let s = c.before.before.args in
     let e : c.before.loop.i ≡ s.t1.count = omega arith in
-    scan-end s.t1.items s.t1.count (asked s.number) (rw e at c.before.loop.invariant.4)
+    scan_end s.t1.items s.t1.count (asked s.number) (rw e at c.before.loop.invariant.4)
 
-pub has-number-spec : {M : Type 1} → statement M
-has-number-spec =
+pub has_number_spec : {M : Type 1} → statement M
+has_number_spec =
     tie.close
     (tie.spec
     invariant-loop

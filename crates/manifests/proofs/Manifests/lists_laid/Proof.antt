@@ -8,17 +8,17 @@ use borrow.Author.Rules.{rules}
 use borrow.Author.Tests.{not-true, not-false}
 use lib.ListN.{take}
 use lib.Seq.{slice}
-use Rattle.rules.specs.Limits.{limits, manifestLimit}
+use Rattle.rules.specs.Limits.{limits, manifest_limit}
 use Rattle.rules.specs.Lists.{all}
-use Rattle.arrays.proofs.Scan.{scan-next, scan-stop, scan-end, all-hit, all-miss}
-use Rattle.manifests.specs.Manifests.{pastEnd, isListLaid}
-use Rattle.manifests.proofs.Places.{Long, long, names-long}
+use Rattle.arrays.proofs.Scan.{scan_next, scan_stop, scan_end, all_hit, all-miss}
+use Rattle.manifests.specs.Manifests.{past_end, is_list_laid}
+use Rattle.manifests.proofs.Places.{Long, long, names_long}
 use Rattle.manifests.proofs.Manifests.lists_laid.Statement.{statement}
 use Rattle.manifests.proofs.Manifests.lists_laid.Tie as tie
 
 abbrev invariant-loop : tie.invariant-loop
 invariant-loop count self i₀ i =
-    (i ≤ count) × (count ≤ manifestLimit limits) × Long self × (all isListLaid (slice i count self.items) ≡ all isListLaid (take count self.items))
+    (i ≤ count) × (count ≤ manifest_limit limits) × Long self × (all is_list_laid (slice i count self.items) ≡ all is_list_laid (take count self.items))
 
 abbrev decreases-loop : tie.decreases-loop
 decreases-loop count self i₀ i = count - i
@@ -35,7 +35,7 @@ element-copy-out-m c = omega arith
 slice-aggregate-is-padded : tie.Need-slice-aggregate-is-padded invariant-loop decreases-loop
 slice-aggregate-is-padded c =
     let a = c.before.before.before.before in
-    sym (names-long a.loop.invariant.2 a.loop.i (omega arith))
+    sym (names_long a.loop.invariant.2 a.loop.i (omega arith))
 
 is-padded-requires : tie.Need-is-padded-requires invariant-loop decreases-loop
 is-padded-requires c κs = search rules
@@ -44,7 +44,7 @@ returns : tie.Need-returns invariant-loop decreases-loop
 returns c =
     let a = c.before.before.before.before.before.before in
     let s = a.before.args in
-    scan-stop s.t1.items s.count (all isListLaid) a.loop.invariant.3 pastEnd (omega arith) (omega (arith, a.loop.invariant.2.items)) false (all-miss _ _ _ (sym c.before.is-padded.ensures ∙ not-true _ c.if1.true))
+    scan_stop s.t1.items s.count (all is_list_laid) a.loop.invariant.3 past_end (omega arith) (omega (arith, a.loop.invariant.2.items)) false (all-miss _ _ _ (sym c.before.is-padded.ensures ∙ not-true _ c.if1.true))
 
 add-i : tie.Need-overflow-add-i invariant-loop decreases-loop
 add-i c = omega arith
@@ -57,17 +57,17 @@ loop-again c =
     let a = c.before.before.before.before.before.before in
     let s = a.before.args in
     let h = a.loop.invariant in
-    (omega arith, h.1, h.2, scan-next s.t1.items s.count (all isListLaid) h.3 pastEnd (omega arith) (omega (arith, h.2.items)) (all isListLaid) (all-hit _ _ _ (sym c.before.is-padded.ensures ∙ not-false _ c.if1.false)))
+    (omega arith, h.1, h.2, scan_next s.t1.items s.count (all is_list_laid) h.3 past_end (omega arith) (omega (arith, h.2.items)) (all is_list_laid) (all_hit _ _ _ (sym c.before.is-padded.ensures ∙ not-false _ c.if1.false)))
 
 returns-2 : tie.Need-returns-2 invariant-loop decreases-loop
 unfolding all
 returns-2 c =
     let s = c.before.before.args in
     let e : c.before.loop.i ≡ s.count = omega arith in
-    scan-end s.t1.items s.count (all isListLaid) (rw e at c.before.loop.invariant.3)
+    scan_end s.t1.items s.count (all is_list_laid) (rw e at c.before.loop.invariant.3)
 
-pub lists-laid-spec : {M : Type 1} → statement M
-lists-laid-spec =
+pub lists_laid_spec : {M : Type 1} → statement M
+lists_laid_spec =
     tie.close
     (tie.spec
     invariant-loop

@@ -8,23 +8,23 @@ use borrow.Author.Rules.{rules}
 use borrow.Author.Tests.{eq-eqb, ne_eqb}
 use lib.ListN.{length, take}
 use lib.Seq.{slice}
-use Rattle.rules.specs.Limits.{limits, manifestLimit}
+use Rattle.rules.specs.Limits.{limits, manifest_limit}
 use Rattle.rules.specs.Lists.{lookup}
-use Rattle.rules.specs.State.{Manifest, firstManifest}
-use Rattle.arrays.proofs.Scan.{scan-next, scan-stop, scan-end, lookup-hit, lookup-miss}
+use Rattle.rules.specs.State.{Manifest, first_manifest}
+use Rattle.arrays.proofs.Scan.{scan_next, scan_stop, scan_end, lookup_hit, lookup-miss}
 use Rattle.manifests.specs.declared.KeptManifest.{KeptManifest}
-use Rattle.manifests.specs.Manifests.{layManifest, manifestOf, pastEnd}
+use Rattle.manifests.specs.Manifests.{lay_manifest, manifest_of, past_end}
 use Rattle.manifests.proofs.Places.{long, few, kept-formed}
 use Rattle.manifests.proofs.Manifests.numbered.Statement.{statement}
 use Rattle.manifests.proofs.Manifests.numbered.Tie as tie
 
 -- what is asked of the places
 abbrev asked : ℕ → List KeptManifest → Manifest
-asked number ms = lookup (λ (m : Manifest). m.number) (λ m. m) firstManifest number (map manifestOf ms)
+asked number ms = lookup (λ (m : Manifest). m.number) (λ m. m) first_manifest number (map manifest_of ms)
 
 abbrev invariant-loop : tie.invariant-loop
 invariant-loop number self count i₀ i =
-    (i ≤ count) × (count ≤ manifestLimit limits) × (count ≡ self.count) × (length self.items ≡ manifestLimit limits) × (asked number (slice i count self.items) ≡ asked number (take count self.items))
+    (i ≤ count) × (count ≤ manifest_limit limits) × (count ≡ self.count) × (length self.items ≡ manifest_limit limits) × (asked number (slice i count self.items) ≡ asked number (take count self.items))
 
 abbrev decreases-loop : tie.decreases-loop
 decreases-loop number self count i₀ i = count - i
@@ -44,8 +44,8 @@ returns c =
     let b = a.before in
     let s = b.args in
     let h = a.loop.invariant in
-    let found = scan-stop s.t1.items s.t1.count (asked s.number) h.4 pastEnd (omega arith) (omega arith) _ (lookup-hit _ _ _ _ _ _ (eq-eqb _ _ (sym c.if1.true))) in
-    sym (kept-formed s.t1 (long s.t1 _ b.well-formed.0) b.requires a.loop.i (omega arith)) ∙ ap layManifest found
+    let found = scan_stop s.t1.items s.t1.count (asked s.number) h.4 past_end (omega arith) (omega arith) _ (lookup_hit _ _ _ _ _ _ (eq-eqb _ _ (sym c.if1.true))) in
+    sym (kept-formed s.t1 (long s.t1 _ b.well-formed.0) b.requires a.loop.i (omega arith)) ∙ ap lay_manifest found
 
 add-i : tie.Need-overflow-add-i invariant-loop decreases-loop
 add-i c = omega arith
@@ -59,7 +59,7 @@ loop-again c =
     let s = a.before.args in
     let h = a.loop.invariant in
     let ask = asked s.number in
-    (omega arith, h.1, h.2, h.3, scan-next s.t1.items s.t1.count ask h.4 pastEnd (omega arith) (omega arith) ask (lookup-miss _ _ _ _ _ _ (ne_eqb _ _ (λ e. c.if1.false (sym e)))))
+    (omega arith, h.1, h.2, h.3, scan_next s.t1.items s.t1.count ask h.4 past_end (omega arith) (omega arith) ask (lookup-miss _ _ _ _ _ _ (ne_eqb _ _ (λ e. c.if1.false (sym e)))))
 
 zero-requires : tie.Need-zero-requires invariant-loop decreases-loop
 zero-requires c κs = search rules
@@ -70,10 +70,10 @@ returns-2 c =
     let a = c.before.before in
     let s = a.before.args in
     let e : a.loop.i ≡ s.t1.count = omega arith in
-    c.zero.ensures ∙ ap layManifest (scan-end s.t1.items s.t1.count (asked s.number) (rw e at a.loop.invariant.4))
+    c.zero.ensures ∙ ap lay_manifest (scan_end s.t1.items s.t1.count (asked s.number) (rw e at a.loop.invariant.4))
 
-pub numbered-spec : {M : Type 1} → statement M
-numbered-spec =
+pub numbered_spec : {M : Type 1} → statement M
+numbered_spec =
     tie.close
     (tie.spec
     invariant-loop

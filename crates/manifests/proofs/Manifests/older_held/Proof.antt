@@ -8,25 +8,25 @@ use native.Mathlib.Omega.{arith}
 use borrow.Author.Tests.{not-true, not-false}
 use lib.ListN.{length, take}
 use lib.Seq.{slice}
-use Rattle.rules.specs.Limits.{limits, manifestLimit}
+use Rattle.rules.specs.Limits.{limits, manifest_limit}
 use Rattle.rules.specs.Lists.{all}
-use Rattle.rules.specs.Step.{heldBy}
-use Rattle.arrays.proofs.Scan.{scan-next, scan-stop, scan-end, all-hit, all-miss}
+use Rattle.rules.specs.Step.{held_by}
+use Rattle.arrays.proofs.Scan.{scan_next, scan_stop, scan_end, all_hit, all-miss}
 use Rattle.holds.specs.declared.Holds.{Holds}
 use Rattle.holds.specs.Holds.{holds_of}
 use Rattle.manifests.specs.declared.KeptManifest.{KeptManifest}
-use Rattle.manifests.specs.Manifests.{manifestOf, pastEnd}
+use Rattle.manifests.specs.Manifests.{manifest_of, past_end}
 use Rattle.manifests.proofs.Places.{long, some, few}
 use Rattle.manifests.proofs.Manifests.older_held.Statement.{statement}
 use Rattle.manifests.proofs.Manifests.older_held.Tie as tie
 
 -- what is asked of the places
 abbrev asked : Holds → List KeptManifest → Bool
-asked holds ms = all (heldBy (holds_of holds)) (map manifestOf ms)
+asked holds ms = all (held_by (holds_of holds)) (map manifest_of ms)
 
 abbrev invariant-loop : tie.invariant-loop
 invariant-loop holds self older i₀ i =
-    (i ≤ older) × (older ≤ limits.holds) × (older ≡ self.count - 1) × (length self.items ≡ manifestLimit limits) × (asked holds (slice i older self.items) ≡ asked holds (take older self.items))
+    (i ≤ older) × (older ≤ limits.holds) × (older ≡ self.count - 1) × (length self.items ≡ manifest_limit limits) × (asked holds (slice i older self.items) ≡ asked holds (take older self.items))
 
 abbrev decreases-loop : tie.decreases-loop
 decreases-loop holds self older i₀ i = older - i
@@ -51,7 +51,7 @@ returns c =
     let a = c.before.before.before.before in
     let s = a.before.args in
     let h = a.loop.invariant in
-    scan-stop s.t1.items (s.t1.count - 1) (asked s.holds) h.4 pastEnd (omega arith) (omega arith) false (all-miss _ _ _ (sym c.before.names-manifest.ensures ∙ not-true _ c.if1.true))
+    scan_stop s.t1.items (s.t1.count - 1) (asked s.holds) h.4 past_end (omega arith) (omega arith) false (all-miss _ _ _ (sym c.before.names-manifest.ensures ∙ not-true _ c.if1.true))
 
 add-i : tie.Need-overflow-add-i invariant-loop decreases-loop
 add-i c = omega arith
@@ -65,17 +65,17 @@ loop-again c =
     let s = a.before.args in
     let h = a.loop.invariant in
     let ask = asked s.holds in
-    (omega arith, h.1, h.2, h.3, scan-next s.t1.items (s.t1.count - 1) ask h.4 pastEnd (omega arith) (omega arith) ask (all-hit _ _ _ (sym c.before.names-manifest.ensures ∙ not-false _ c.if1.false)))
+    (omega arith, h.1, h.2, h.3, scan_next s.t1.items (s.t1.count - 1) ask h.4 past_end (omega arith) (omega arith) ask (all_hit _ _ _ (sym c.before.names-manifest.ensures ∙ not-false _ c.if1.false)))
 
 returns-2 : tie.Need-returns-2 invariant-loop decreases-loop
 unfolding all
 returns-2 c =
     let s = c.before.before.args in
     let e : c.before.loop.i ≡ s.t1.count - 1 = omega arith in
-    scan-end s.t1.items (s.t1.count - 1) (asked s.holds) (rw e at c.before.loop.invariant.4)
+    scan_end s.t1.items (s.t1.count - 1) (asked s.holds) (rw e at c.before.loop.invariant.4)
 
-pub older-held-spec : {M : Type 1} → statement M
-older-held-spec =
+pub older_held_spec : {M : Type 1} → statement M
+older_held_spec =
     tie.close
     (tie.spec
     invariant-loop

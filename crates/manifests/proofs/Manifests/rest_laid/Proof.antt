@@ -9,27 +9,27 @@ use borrow.Author.Rules.{rules}
 use borrow.Author.Tests.{not-true, not-false}
 use lib.ListN.{length, drop}
 use lib.Seq.{slice, take_all}
-use Rattle.rules.specs.Limits.{limits, manifestLimit}
+use Rattle.rules.specs.Limits.{limits, manifest_limit}
 use Rattle.rules.specs.Lists.{all}
-use Rattle.arrays.proofs.Scan.{scan-next, scan-stop, scan-end, all-hit, all-miss}
+use Rattle.arrays.proofs.Scan.{scan_next, scan_stop, scan_end, all_hit, all-miss}
 use Rattle.manifests.specs.declared.KeptManifest.{KeptManifest}
-use Rattle.manifests.specs.Manifests.{pastEnd, isNoManifest}
+use Rattle.manifests.specs.Manifests.{past_end, is_no_manifest}
 use Rattle.manifests.proofs.Places.{long}
 use Rattle.manifests.proofs.Manifests.rest_laid.Statement.{statement}
 use Rattle.manifests.proofs.Manifests.rest_laid.Tie as tie
 
 abbrev invariant-loop : tie.invariant-loop
 invariant-loop count self i₀ i =
-    (i ≤ manifestLimit limits) × (length self.items ≡ manifestLimit limits) × (all isNoManifest (slice i (manifestLimit limits) self.items) ≡ all isNoManifest (drop count self.items))
+    (i ≤ manifest_limit limits) × (length self.items ≡ manifest_limit limits) × (all is_no_manifest (slice i (manifest_limit limits) self.items) ≡ all is_no_manifest (drop count self.items))
 
 abbrev decreases-loop : tie.decreases-loop
-decreases-loop count self i₀ i = manifestLimit limits - i
+decreases-loop count self i₀ i = manifest_limit limits - i
 
 loop-holds : tie.Need-loop-init invariant-loop decreases-loop
 loop-holds c =
     let s = c.args in
     let places = (long s.t1 _ c.well-formed.0).items in
-    (omega arith, places, ap (λ (l : List KeptManifest). all isNoManifest (drop s.count l)) (take_all (manifestLimit limits) s.t1.items (omega arith)))
+    (omega arith, places, ap (λ (l : List KeptManifest). all is_no_manifest (drop s.count l)) (take_all (manifest_limit limits) s.t1.items (omega arith)))
 
 mul-m : tie.Need-overflow-mul-m invariant-loop decreases-loop
 mul-m c = omega arith
@@ -44,7 +44,7 @@ returns : tie.Need-returns invariant-loop decreases-loop
 returns c =
     let a = c.before.before.before.before in
     let s = a.before.args in
-    scan-stop s.t1.items (manifestLimit limits) (all isNoManifest) a.loop.invariant.2 pastEnd (omega arith) (omega arith) false (all-miss _ _ _ (sym c.before.is-no-manifest.ensures ∙ not-true _ c.if1.true))
+    scan_stop s.t1.items (manifest_limit limits) (all is_no_manifest) a.loop.invariant.2 past_end (omega arith) (omega arith) false (all-miss _ _ _ (sym c.before.is-no-manifest.ensures ∙ not-true _ c.if1.true))
 
 add-i : tie.Need-overflow-add-i invariant-loop decreases-loop
 add-i c = omega arith
@@ -57,17 +57,17 @@ loop-again c =
     let a = c.before.before.before.before in
     let s = a.before.args in
     let h = a.loop.invariant in
-    (omega arith, h.1, scan-next s.t1.items (manifestLimit limits) (all isNoManifest) h.2 pastEnd (omega arith) (omega arith) (all isNoManifest) (all-hit _ _ _ (sym c.before.is-no-manifest.ensures ∙ not-false _ c.if1.false)))
+    (omega arith, h.1, scan_next s.t1.items (manifest_limit limits) (all is_no_manifest) h.2 past_end (omega arith) (omega arith) (all is_no_manifest) (all_hit _ _ _ (sym c.before.is-no-manifest.ensures ∙ not-false _ c.if1.false)))
 
 returns-2 : tie.Need-returns-2 invariant-loop decreases-loop
 unfolding all
 returns-2 c =
     let s = c.before.before.args in
-    let e : c.before.loop.i ≡ manifestLimit limits = omega arith in
-    scan-end s.t1.items (manifestLimit limits) (all isNoManifest) (rw e at c.before.loop.invariant.2)
+    let e : c.before.loop.i ≡ manifest_limit limits = omega arith in
+    scan_end s.t1.items (manifest_limit limits) (all is_no_manifest) (rw e at c.before.loop.invariant.2)
 
-pub rest-laid-spec : {M : Type 1} → statement M
-rest-laid-spec =
+pub rest_laid_spec : {M : Type 1} → statement M
+rest_laid_spec =
     tie.close
     (tie.spec
     invariant-loop

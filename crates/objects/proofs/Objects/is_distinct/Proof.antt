@@ -11,8 +11,8 @@ use Rattle.rules.specs.declared.Object.{Object}
 use Rattle.rules.specs.Limits.{limits}
 use Rattle.rules.specs.Lists.{keep, distinct}
 use Rattle.rules.specs.Table.{nonzero}
-use Rattle.objects.specs.Objects.{numbersAt, numbersIn}
-use Rattle.objects.proofs.Places.{items-long, numbers-kept, distinct-not, Passed, passed_none, passed-above, passed-other}
+use Rattle.objects.specs.Objects.{numbers_at, numbers_in}
+use Rattle.objects.proofs.Places.{items_long, numbers-kept, distinct-not, Passed, passed_none, passed_above, passed_other}
 use Rattle.objects.proofs.Objects.is_distinct.Statement.{statement}
 use Rattle.objects.proofs.Objects.is_distinct.Tie as tie
 
@@ -23,7 +23,7 @@ abbrev decreases-loop : tie.decreases-loop
 decreases-loop numbers highest₀ i₀ highest i = limits.places - i
 
 -- what the places say of the numbers
-said : (ns : List ℕ) (ps : List Object) → ns ≡ numbersAt ps → distinct (keep nonzero ns) ≡ distinct (numbersIn ps)
+said : (ns : List ℕ) (ps : List Object) → ns ≡ numbers_at ps → distinct (keep nonzero ns) ≡ distinct (numbers_in ps)
 said ns ps e = ap (λ (l : List ℕ). distinct (keep nonzero l)) e ∙ ap distinct (sym (numbers-kept ps))
 
 numbers-requires : tie.Need-numbers-requires invariant-loop decreases-loop
@@ -32,7 +32,7 @@ numbers-requires c κs = tt
 loop-holds : tie.Need-loop-init invariant-loop decreases-loop
 loop-holds c =
     let s = c.before.args.self in
-    (omega arith, ap length c.numbers.ensures ∙ length-map s.items (λ (o : Object). o.number) ∙ items-long s _ c.before.well-formed.0, passed_none c.numbers.result)
+    (omega arith, ap length c.numbers.ensures ∙ length-map s.items (λ (o : Object). o.number) ∙ items_long s _ c.before.well-formed.0, passed_none c.numbers.result)
 
 slice-aggregate-is-among : tie.Need-slice-aggregate-is-among invariant-loop decreases-loop
 slice-aggregate-is-among c = sym (length-take-le c.before.before.before.loop.i c.before.before.before.before.numbers.result (omega (arith, c.before.before.before.loop.invariant.1)))
@@ -67,8 +67,8 @@ loop-again c =
       omega arith,
       h.1,
       ⊎_elim
-          (λ w. subst⁻¹ (λ (top : ℕ). Passed ns (i + 1) top) w.1 (passed-above ns i c.before.before.loop.highest (omega arith) h.2 (omega (arith, w.0.taken))))
-          (λ w. subst⁻¹ (λ (top : ℕ). Passed ns (i + 1) top) w.4 (passed-other ns i c.before.before.loop.highest (omega arith) h.2 (omega (arith, w.0.left)) (sym w.2.ensures ∙ w.3.left)))
+          (λ w. subst⁻¹ (λ (top : ℕ). Passed ns (i + 1) top) w.1 (passed_above ns i c.before.before.loop.highest (omega arith) h.2 (omega (arith, w.0.taken))))
+          (λ w. subst⁻¹ (λ (top : ℕ). Passed ns (i + 1) top) w.4 (passed_other ns i c.before.before.loop.highest (omega arith) h.2 (omega (arith, w.0.left)) (sym w.2.ensures ∙ w.3.left)))
           c.if1.branch,
     )
 
@@ -78,8 +78,8 @@ returns-2 c =
     let h = c.before.loop.invariant in
     sym h.2.distinct ∙ ap (λ (l : List ℕ). distinct (keep nonzero l)) (take_all c.before.loop.i ns (omega arith)) ∙ said ns c.before.before.before.args.self.items c.before.before.numbers.ensures
 
-pub is-distinct-spec : {M : Type 1} → statement M
-is-distinct-spec =
+pub is_distinct_spec : {M : Type 1} → statement M
+is_distinct_spec =
     tie.close
     (tie.spec
     invariant-loop

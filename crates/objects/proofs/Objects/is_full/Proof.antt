@@ -10,10 +10,10 @@ use lib.ListN.{length}
 use Rattle.rules.specs.Limits.{limits}
 use Rattle.rules.specs.Lists.{keep}
 use Rattle.rules.specs.State.{occupied}
-use Rattle.rules.proofs.Lists.{bool-ext}
+use Rattle.rules.proofs.Lists.{bool_ext}
 use Rattle.rules.proofs.Numbers.{keep-length}
 use Rattle.objects.specs.Occupancy.{used}
-use Rattle.objects.proofs.Places.{items-long, laid-flags, laid-count, used-length}
+use Rattle.objects.proofs.Places.{items_long, laid-flags, laid-count, used-length}
 use Rattle.objects.proofs.Objects.is_full.Statement.{statement}
 use Rattle.objects.proofs.Objects.is_full.Tie as tie
 
@@ -22,15 +22,15 @@ count-taken-requires c κs = omega (arith, laid-count c.before.before.args.self 
 
 -- at most k: all are taken exactly when k are
 full : (k n : ℕ) → n ≤ k → eqb n k ≡ leb k n
-full k n h = bool-ext _ _ (λ e. le-leb k n (omega (arith, eqb-true n k e))) (λ e. eq-eqb n k (omega (arith, leb-true k n e)))
+full k n h = bool_ext _ _ (λ e. le-leb k n (omega (arith, eqb-true n k e))) (λ e. eq-eqb n k (omega (arith, leb-true k n e)))
 
 returns : tie.Need-returns
 returns c =
     let s = c.before.before.before.args.self in
-    let long = items-long s _ c.before.before.before.well-formed.0 in
+    let long = items_long s _ c.before.before.before.well-formed.0 in
     let many : c.count-taken.result ≡ length (keep occupied s.items) =
     c.count-taken.ensures ∙ ap used (laid-flags s c.before.before.before.requires long) ∙ used-length s.items in
     ap (λ (n : ℕ). eqb n limits.places) many ∙ full limits.places (length (keep occupied s.items)) (omega (arith, keep-length occupied s.items))
 
-pub is-full-spec : {M : Type 1} → statement M
-is-full-spec = tie.close (tie.spec (λ c. search rules) count-taken-requires returns)
+pub is_full_spec : {M : Type 1} → statement M
+is_full_spec = tie.close (tie.spec (λ c. search rules) count-taken-requires returns)

@@ -11,61 +11,61 @@ use lib.Dec.{eqb}
 use lib.ListN.{length, take, drop, get_or, length-map, length-take, drop_of_length-le}
 use lib.Seq.{drop-cons, drop-drop}
 use Rattle.rules.specs.declared.Object.{Object}
-use Rattle.rules.specs.Limits.{limits, wordCount, wordBits}
+use Rattle.rules.specs.Limits.{limits, word_count, word_bits}
 use Rattle.rules.specs.State.{occupied}
 use Rattle.rules.specs.Table.{nonzero}
 use Rattle.arrays.proofs.Lists.{map-take, map-drop}
 use Rattle.objects.specs.declared.Objects.{Objects}
 use Rattle.objects.specs.Occupancy.{word, words_of}
-use Rattle.objects.specs.Objects.{same, wordsAt, numbersAt}
-use Rattle.objects.proofs.Places.{items-long, words_long}
+use Rattle.objects.specs.Objects.{same, words_at, numbers_at}
+use Rattle.objects.proofs.Places.{items_long, words_long}
 use Rattle.objects.proofs.Objects.is_laid.Statement.{statement}
 use Rattle.objects.proofs.Objects.is_laid.Tie as tie
 
 -- the words from k on are those of the places behind the first k words'
-abbrev laidFrom : List ℕ → List Bool → ℕ → Bool
-laidFrom ws bs k = same (drop k ws) (words_of wordBits (wordCount - k) (drop (k * wordBits) bs))
+abbrev laid_from : List ℕ → List Bool → ℕ → Bool
+laid_from ws bs k = same (drop k ws) (words_of word_bits (word_count - k) (drop (k * word_bits) bs))
 
 -- the word of the places of word k
 abbrev word_at : List Bool → ℕ → ℕ
-word_at bs k = word (take wordBits (drop (k * wordBits) bs))
+word_at bs k = word (take word_bits (drop (k * word_bits) bs))
 
-from_next : (ws : List ℕ) (bs : List Bool) (k : ℕ) → length ws ≡ wordCount → k < wordCount → laidFrom ws bs k ≡ (eqb (get_or ws k 0) (word_at bs k) && laidFrom ws bs (k + 1))
+from_next : (ws : List ℕ) (bs : List Bool) (k : ℕ) → length ws ≡ word_count → k < word_count → laid_from ws bs k ≡ (eqb (get_or ws k 0) (word_at bs k) && laid_from ws bs (k + 1))
 unfolding same words_of
 from_next ws bs k long h =
-    let n : wordCount - k ≡ suc (wordCount - (k + 1)) = omega arith in
-    let at : k * wordBits + wordBits ≡ (k + 1) * wordBits = omega arith in
-    rw (n, drop-cons ws k 0 (omega arith), drop-drop wordBits (k * wordBits) bs, at, add-one)
+    let n : word_count - k ≡ suc (word_count - (k + 1)) = omega arith in
+    let at : k * word_bits + word_bits ≡ (k + 1) * word_bits = omega arith in
+    rw (n, drop-cons ws k 0 (omega arith), drop-drop word_bits (k * word_bits) bs, at, add-one)
 
-from_end : (ws : List ℕ) (bs : List Bool) → length ws ≡ wordCount → laidFrom ws bs wordCount ≡ true
+from_end : (ws : List ℕ) (bs : List Bool) → length ws ≡ word_count → laid_from ws bs word_count ≡ true
 unfolding same words_of
-from_end ws bs long = rw (drop_of_length-le ws {i = wordCount} (omega arith))
+from_end ws bs long = rw (drop_of_length-le ws {i = word_count} (omega arith))
 
 -- the word of the numbers that are lent
-lent-word : (ns : List ℕ) (ps : List Object) → ns ≡ numbersAt ps → (k : ℕ) → word (map nonzero (take (k * wordBits + wordBits - k * wordBits) (drop (k * wordBits) ns))) ≡ word_at (map occupied ps) k
+lent-word : (ns : List ℕ) (ps : List Object) → ns ≡ numbers_at ps → (k : ℕ) → word (map nonzero (take (k * word_bits + word_bits - k * word_bits) (drop (k * word_bits) ns))) ≡ word_at (map occupied ps) k
 lent-word ns ps e k =
-    let many : k * wordBits + wordBits - k * wordBits ≡ wordBits = omega arith in
-    ap (λ (n : ℕ). word (map nonzero (take n (drop (k * wordBits) ns)))) many
-    ∙ ap word (map-take nonzero wordBits (drop (k * wordBits) ns)
-    ∙ ap (take wordBits) (map-drop nonzero (k * wordBits) ns ∙ ap (drop (k * wordBits)) (ap (map nonzero) e ∙ both ps)))
+    let many : k * word_bits + word_bits - k * word_bits ≡ word_bits = omega arith in
+    ap (λ (n : ℕ). word (map nonzero (take n (drop (k * word_bits) ns)))) many
+    ∙ ap word (map-take nonzero word_bits (drop (k * word_bits) ns)
+    ∙ ap (take word_bits) (map-drop nonzero (k * word_bits) ns ∙ ap (drop (k * word_bits)) (ap (map nonzero) e ∙ both ps)))
   where
-    both : (ps : List Object) → map nonzero (numbersAt ps) ≡ map occupied ps
+    both : (ps : List Object) → map nonzero (numbers_at ps) ≡ map occupied ps
     both [] = refl
     both (o ∷ os) = ap (λ (bs : List Bool). occupied o ∷ bs) (both os)
 
 abbrev invariant-loop : tie.invariant-loop
 invariant-loop self numbers k₀ k =
-    (k ≤ wordCount) × (length self.occupancy ≡ wordCount) × (length numbers ≡ limits.places) × (numbers ≡ numbersAt self.items)
-    × (laidFrom self.occupancy (map occupied self.items) k ≡ same self.occupancy (wordsAt self.items))
+    (k ≤ word_count) × (length self.occupancy ≡ word_count) × (length numbers ≡ limits.places) × (numbers ≡ numbers_at self.items)
+    × (laid_from self.occupancy (map occupied self.items) k ≡ same self.occupancy (words_at self.items))
 
 abbrev decreases-loop : tie.decreases-loop
-decreases-loop self numbers k₀ k = wordCount - k
+decreases-loop self numbers k₀ k = word_count - k
 
 loop-holds : tie.Need-loop-init invariant-loop decreases-loop
 loop-holds c =
     let s = c.before.args.t1 in
     let good = c.before.well-formed.0 in
-    (omega arith, words_long s _ good, ap length c.numbers.ensures ∙ length-map s.items (λ (o : Object). o.number) ∙ items-long s _ good, c.numbers.ensures, refl)
+    (omega arith, words_long s _ good, ap length c.numbers.ensures ∙ length-map s.items (λ (o : Object). o.number) ∙ items_long s _ good, c.numbers.ensures, refl)
 
 mul-from : tie.Need-overflow-mul-from invariant-loop decreases-loop
 mul-from c = omega arith
@@ -94,8 +94,8 @@ part-word-of-end c = omega arith
 word-of-requires : tie.Need-word-of-requires invariant-loop decreases-loop
 word-of-requires c κs =
     let a = c.before.before.before.before in
-    let n = a.loop.k * wordBits in
-    omega (arith, length-take (n + wordBits - n) (drop n a.before.numbers.result))
+    let n = a.loop.k * word_bits in
+    omega (arith, length-take (n + word_bits - n) (drop n a.before.numbers.result))
 
 -- the word that was made beside the one that stands there
 module _ (c : tie.After-word-of invariant-loop decreases-loop) where
@@ -109,9 +109,9 @@ module _ (c : tie.After-word-of invariant-loop decreases-loop) where
   made = c.word_of.ensures ∙ lent-word at.before.numbers.result self.items at.loop.inv.3 at.loop.k
 
   next : (b : Bool) → eqb (get_or self.occupancy at.loop.k 0) c.word_of.result ≡ b
-      → (b && laidFrom self.occupancy (map occupied self.items) (at.loop.k + 1)) ≡ same self.occupancy (wordsAt self.items)
+      → (b && laid_from self.occupancy (map occupied self.items) (at.loop.k + 1)) ≡ same self.occupancy (words_at self.items)
   next b e =
-      ap (λ (t : Bool). t && laidFrom self.occupancy (map occupied self.items) (at.loop.k + 1)) (sym e ∙ ap (eqb (get_or self.occupancy at.loop.k 0)) made)
+      ap (λ (t : Bool). t && laid_from self.occupancy (map occupied self.items) (at.loop.k + 1)) (sym e ∙ ap (eqb (get_or self.occupancy at.loop.k 0)) made)
       ∙ sym (from_next self.occupancy (map occupied self.items) at.loop.k at.loop.inv.1 (omega arith)) ∙ at.loop.inv.4
 
 returns : tie.Need-returns invariant-loop decreases-loop
@@ -132,11 +132,11 @@ returns-2 : tie.Need-returns-2 invariant-loop decreases-loop
 returns-2 c =
     let h = c.before.loop.invariant in
     let s = c.before.before.before.args.t1 in
-    let e : c.before.loop.k ≡ wordCount = omega arith in
-    sym (from_end s.occupancy (map occupied s.items) h.1) ∙ ap (laidFrom s.occupancy (map occupied s.items)) (sym e) ∙ h.4
+    let e : c.before.loop.k ≡ word_count = omega arith in
+    sym (from_end s.occupancy (map occupied s.items) h.1) ∙ ap (laid_from s.occupancy (map occupied s.items)) (sym e) ∙ h.4
 
-pub is-laid-spec : {M : Type 1} → statement M
-is-laid-spec =
+pub is_laid_spec : {M : Type 1} → statement M
+is_laid_spec =
     tie.close
     (tie.spec
     invariant-loop

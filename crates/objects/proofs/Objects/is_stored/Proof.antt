@@ -14,5 +14,5 @@ returns c =
     let s = c.before.before.before.args in
     c.is_among.ensures ∙ ap (λ (ns : List ℕ). among ns s.number) c.before.before.numbers.ensures ∙ sym (stored-among s.self.items s.number)
 
-pub is-stored-spec : {M : Type 1} → statement M
-is-stored-spec = tie.close (tie.spec (λ c κs. tt) (λ c. search rules) (λ c κs. tt) returns)
+pub is_stored_spec : {M : Type 1} → statement M
+is_stored_spec = tie.close (tie.spec (λ c κs. tt) (λ c. search rules) (λ c κs. tt) returns)

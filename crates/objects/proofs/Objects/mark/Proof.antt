@@ -4,13 +4,13 @@ use mathlib.Core.Path.{sym, ap, ◌∙◌}
 use Prim.Native.Nat.{◌-◌}
 use native.Mathlib.Omega.{arith}
 use borrow.Author.Rules.{rules}
-use Rattle.rules.specs.Limits.{limits, wordCount, wordBits}
+use Rattle.rules.specs.Limits.{limits, word_count, word_bits}
 use Rattle.rules.specs.State.{free}
 use Rattle.rules.specs.Step.{mark}
 use Rattle.arrays.proofs.Lists.{Copied, copied_none, copied_next, copied_all}
 use Rattle.objects.specs.declared.Objects.{Objects}
 use Rattle.objects.specs.Occupancy.{words_of}
-use Rattle.objects.proofs.Places.{items-long, laid-words, marked-places}
+use Rattle.objects.proofs.Places.{items_long, laid-words, marked-places}
 use Rattle.objects.proofs.Objects.mark.Statement.{statement}
 use Rattle.objects.proofs.Objects.mark.Tie as tie
 
@@ -26,7 +26,7 @@ none-requires c κs = search rules
 loop-holds : tie.Need-loop-init invariant-loop decreases-loop
 loop-holds c =
     let s = c.before.before.before.args in
-    rw (ap (λ (o : Objects). o.items) c.before.none.ensures) (copied_none _ free (mark s.list.now) s.t1.items (items-long s.t1 _ c.before.before.before.well-formed.0))
+    rw (ap (λ (o : Objects). o.items) c.before.none.ensures) (copied_none _ free (mark s.list.now) s.t1.items (items_long s.t1 _ c.before.before.before.well-formed.0))
 
 mul-o : tie.Need-overflow-mul-o invariant-loop decreases-loop
 mul-o c = omega arith
@@ -56,7 +56,7 @@ returns : tie.Need-returns invariant-loop decreases-loop
 returns c =
     let s = c.before.before.before.before.before.args in
     let same = copied_all _ _ (mark s.list.now) s.t1.items c.before.loop.invariant (omega arith) in
-    let words = laid-words s.t1 c.before.before.before.before.before.requires ∙ ap (words_of wordBits wordCount) (sym (marked-places s.list.now s.t1.items)) in
+    let words = laid-words s.t1 c.before.before.before.before.before.requires ∙ ap (words_of word_bits word_count) (sym (marked-places s.list.now s.t1.items)) in
     λ j. record { occupancy = words j; items = same j }
 
 pub mark_spec : {M : Type 1} → statement M

@@ -10,7 +10,7 @@ use Rattle.rules.specs.declared.Object.{Object}
 use Rattle.rules.specs.Limits.{limits}
 use Rattle.rules.specs.State.{free}
 use Rattle.arrays.proofs.Lists.{Copied, copied_none, copied_next, copied_all}
-use Rattle.objects.proofs.Places.{items-long}
+use Rattle.objects.proofs.Places.{items_long}
 use Rattle.objects.proofs.Objects.named.Statement.{statement}
 use Rattle.objects.proofs.Objects.named.Tie as tie
 
@@ -24,7 +24,7 @@ abbrev decreases-loop : tie.decreases-loop
 decreases-loop self numbers₀ i₀ numbers i = limits.places - i
 
 loop-holds : tie.Need-loop-init invariant-loop decreases-loop
-loop-holds c = copied_none _ 0 field c.args.t1.items (items-long c.args.t1 _ c.well-formed.0)
+loop-holds c = copied_none _ 0 field c.args.t1.items (items_long c.args.t1 _ c.well-formed.0)
 
 loop-again : tie.Need-loop-preserved invariant-loop decreases-loop
 loop-again c =
@@ -37,8 +37,8 @@ loop-again c =
 returns : tie.Need-returns invariant-loop decreases-loop
 returns c = copied_all _ _ _ _ c.before.loop.invariant (omega arith)
 
-pub named-spec : {M : Type 1} → statement M
-named-spec =
+pub named_spec : {M : Type 1} → statement M
+named_spec =
     tie.close
     (tie.spec
     invariant-loop

@@ -3,14 +3,14 @@
 use mathlib.Core.Path.{ap}
 use lib.ListN.{replicate}
 use Rattle.rules.specs.declared.Object.{Object}
-use Rattle.rules.specs.Limits.{limits, wordCount}
+use Rattle.rules.specs.Limits.{limits, word_count}
 use Rattle.objects.specs.Occupancy.{word, words_of}
 use Rattle.objects.proofs.Objects.none.Statement.{statement}
 use Rattle.objects.proofs.Objects.none.Tie as tie
 
 returns : tie.Need-returns
 unfolding words_of word
-returns c = ap (λ (o : Object). record { occupancy = replicate wordCount 0; items = replicate limits.places o }) c.no-object.ensures
+returns c = ap (λ (o : Object). record { occupancy = replicate word_count 0; items = replicate limits.places o }) c.no-object.ensures
 
 pub none_spec : {M : Type 1} → statement M
 none_spec = tie.close (tie.spec (λ c κs. tt) returns)

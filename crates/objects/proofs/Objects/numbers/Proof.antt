@@ -6,7 +6,7 @@ use Rattle.rules.specs.declared.Object.{Object}
 use Rattle.rules.specs.Limits.{limits}
 use Rattle.rules.specs.State.{free}
 use Rattle.arrays.proofs.Lists.{Copied, copied_none, copied_next, copied_all}
-use Rattle.objects.proofs.Places.{items-long}
+use Rattle.objects.proofs.Places.{items_long}
 use Rattle.objects.proofs.Objects.numbers.Statement.{statement}
 use Rattle.objects.proofs.Objects.numbers.Tie as tie
 
@@ -20,7 +20,7 @@ abbrev decreases-loop : tie.decreases-loop
 decreases-loop self numbers₀ i₀ numbers i = limits.places - i
 
 loop-holds : tie.Need-loop-init invariant-loop decreases-loop
-loop-holds c = copied_none _ 0 field c.args.t1.items (items-long c.args.t1 _ c.well-formed.0)
+loop-holds c = copied_none _ 0 field c.args.t1.items (items_long c.args.t1 _ c.well-formed.0)
 
 loop-again : tie.Need-loop-preserved invariant-loop decreases-loop
 loop-again c = copied_next _ _ _ _ c.before.before.loop.invariant free (omega arith)
@@ -28,8 +28,8 @@ loop-again c = copied_next _ _ _ _ c.before.before.loop.invariant free (omega ar
 returns : tie.Need-returns invariant-loop decreases-loop
 returns c = copied_all _ _ _ _ c.before.loop.invariant (omega arith)
 
-pub numbers-spec : {M : Type 1} → statement M
-numbers-spec =
+pub numbers_spec : {M : Type 1} → statement M
+numbers_spec =
     tie.close
     (tie.spec
     invariant-loop

@@ -11,15 +11,15 @@ use lib.Seq.{slice, take_all}
 use Rattle.rules.specs.Lists.{all}
 use Rattle.rules.specs.Limits.{limits}
 use Rattle.rules.specs.State.{free}
-use Rattle.arrays.proofs.Scan.{scan-next, scan-stop, scan-end, all-hit, all-miss}
-use Rattle.objects.specs.Objects.{placeSoundBy}
-use Rattle.objects.proofs.Places.{items-long}
+use Rattle.arrays.proofs.Scan.{scan_next, scan_stop, scan_end, all_hit, all-miss}
+use Rattle.objects.specs.Objects.{place_sound_by}
+use Rattle.objects.proofs.Places.{items_long}
 use Rattle.objects.proofs.Objects.places_sound.Statement.{statement}
 use Rattle.objects.proofs.Objects.places_sound.Tie as tie
 
 abbrev invariant-loop : tie.invariant-loop
 invariant-loop writer compactor self i₀ i =
-    (i ≤ limits.places) × (length self.items ≡ limits.places) × (all (placeSoundBy writer compactor) (slice i limits.places self.items) ≡ all (placeSoundBy writer compactor) self.items)
+    (i ≤ limits.places) × (length self.items ≡ limits.places) × (all (place_sound_by writer compactor) (slice i limits.places self.items) ≡ all (place_sound_by writer compactor) self.items)
 
 abbrev decreases-loop : tie.decreases-loop
 decreases-loop writer compactor self i₀ i = limits.places - i
@@ -27,8 +27,8 @@ decreases-loop writer compactor self i₀ i = limits.places - i
 loop-holds : tie.Need-loop-init invariant-loop decreases-loop
 loop-holds c =
     let s = c.args in
-    let long = items-long s.t1 _ c.well-formed.0 in
-    (omega arith, long, ap (all (placeSoundBy s.writer s.compactor)) (take_all limits.places s.t1.items (omega arith)))
+    let long = items_long s.t1 _ c.well-formed.0 in
+    (omega arith, long, ap (all (place_sound_by s.writer s.compactor)) (take_all limits.places s.t1.items (omega arith)))
 
 mul-o : tie.Need-overflow-mul-o invariant-loop decreases-loop
 mul-o c = omega arith
@@ -44,7 +44,7 @@ returns c =
     let a = c.before.before.before.before in
     let s = a.before.args in
     let h = a.loop.invariant in
-    scan-stop s.t1.items limits.places (all (placeSoundBy s.writer s.compactor)) h.2 free (omega arith) (omega arith) false
+    scan_stop s.t1.items limits.places (all (place_sound_by s.writer s.compactor)) h.2 free (omega arith) (omega arith) false
     (all-miss _ _ _ (sym c.before.place-sound.ensures ∙ not-true _ c.if1.true))
 
 add-i : tie.Need-overflow-add-i invariant-loop decreases-loop
@@ -58,18 +58,18 @@ loop-again c =
     let a = c.before.before.before.before in
     let s = a.before.args in
     let h = a.loop.invariant in
-    let ask = all (placeSoundBy s.writer s.compactor) in
-    (omega arith, h.1, scan-next s.t1.items limits.places ask h.2 free (omega arith) (omega arith) ask (all-hit _ _ _ (sym c.before.place-sound.ensures ∙ not-false _ c.if1.false)))
+    let ask = all (place_sound_by s.writer s.compactor) in
+    (omega arith, h.1, scan_next s.t1.items limits.places ask h.2 free (omega arith) (omega arith) ask (all_hit _ _ _ (sym c.before.place-sound.ensures ∙ not-false _ c.if1.false)))
 
 returns-2 : tie.Need-returns-2 invariant-loop decreases-loop
 unfolding all
 returns-2 c =
     let s = c.before.before.args in
     let e : c.before.loop.i ≡ limits.places = omega arith in
-    scan-end s.t1.items limits.places (all (placeSoundBy s.writer s.compactor)) (rw e at c.before.loop.invariant.2)
+    scan_end s.t1.items limits.places (all (place_sound_by s.writer s.compactor)) (rw e at c.before.loop.invariant.2)
 
-pub places-sound-spec : {M : Type 1} → statement M
-places-sound-spec =
+pub places_sound_spec : {M : Type 1} → statement M
+places_sound_spec =
     tie.close
     (tie.spec
     invariant-loop

@@ -7,14 +7,14 @@ use Prim.Native.Nat.{ℕ, ◌<◌}
 use native.Mathlib.Omega.{arith}
 use borrow.Author.Rules.{rules}
 use lib.ListN.{set, length-map}
-use Rattle.rules.specs.Limits.{limits, wordBits}
+use Rattle.rules.specs.Limits.{limits, word_bits}
 use Rattle.rules.specs.State.{occupied}
 use Rattle.rules.specs.Step.{place}
 use Rattle.rules.proofs.Laws.{place-lowest}
-use Rattle.objects.specs.Occupancy.{lowestFree, withFlag}
-use Rattle.objects.specs.Objects.{wordsAt}
+use Rattle.objects.specs.Occupancy.{lowest_free, with_flag}
+use Rattle.objects.specs.Objects.{words_at}
 use Rattle.objects.proofs.Words.{free-place}
-use Rattle.objects.proofs.Places.{items-long, laid-words, laid-count, laid-flags, set_words, used-length, lowest-place}
+use Rattle.objects.proofs.Places.{items_long, laid-words, laid-count, laid-flags, set_words, used-length, lowest-place}
 use Rattle.objects.proofs.Objects.put.Statement.{statement}
 use Rattle.objects.proofs.Objects.put.Tie as tie
 
@@ -26,18 +26,18 @@ module _ (c : tie.After-lowest-free) where
   abbrev start : tie.Start
   start = c.before.before.before
 
-  at-is : c.lowest-free.result ≡ lowestFree (map occupied start.args.t1.items)
-  at-is =
+  at_is : c.lowest-free.result ≡ lowest_free (map occupied start.args.t1.items)
+  at_is =
       let s = start.args.t1 in
-      c.lowest-free.ensures ∙ ap lowestFree (laid-flags s start.pre.0 (items-long s _ start.good.0))
+      c.lowest-free.ensures ∙ ap lowest_free (laid-flags s start.pre.0 (items_long s _ start.good.0))
 
   at-below : c.lowest-free.result < limits.places
   at-below =
       let s = start.args.t1 in
-      let long = items-long s _ start.good.0 in
+      let long = items_long s _ start.good.0 in
       let many = length-map s.items occupied in
       let some = used-length s.items in
-      omega (arith, at-is, free-place (map occupied s.items) (omega (arith, start.pre.2)))
+      omega (arith, at_is, free-place (map occupied s.items) (omega (arith, start.pre.2)))
 
 set-bit-requires : tie.Need-set-bit-requires
 set-bit-requires c κs =
@@ -58,12 +58,12 @@ returns c =
     let p = (start l).requires in
     let ps = s.items in
     let at = l.lowest-free.result in
-    let long = items-long s _ (start l).well-formed.0 in
-    let placed : set ps at o ≡ place o ps = ap (λ (i : ℕ). set ps i o) (at-is l ∙ lowest-place ps) ∙ sym (place-lowest o ps) in
-    let bits : c.before.set-bit.new.0 ≡ wordsAt (place o ps) =
+    let long = items_long s _ (start l).well-formed.0 in
+    let placed : set ps at o ≡ place o ps = ap (λ (i : ℕ). set ps i o) (at_is l ∙ lowest-place ps) ∙ sym (place-lowest o ps) in
+    let bits : c.before.set-bit.new.0 ≡ words_at (place o ps) =
     c.before.set-bit.ensures
-    ∙ ap₂ (λ (b : Bool) (ws : List ℕ). withFlag wordBits b at ws) (sym p.1) (laid-words s p.0)
-    ∙ set_words ps long at (omega (arith, at-below l)) o ∙ ap wordsAt placed in
+    ∙ ap₂ (λ (b : Bool) (ws : List ℕ). with_flag word_bits b at ws) (sym p.1) (laid-words s p.0)
+    ∙ set_words ps long at (omega (arith, at-below l)) o ∙ ap words_at placed in
     λ j. record { occupancy = bits j; items = placed j }
 
 pub put_spec : {M : Type 1} → statement M

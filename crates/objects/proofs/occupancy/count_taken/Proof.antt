@@ -8,29 +8,29 @@ use native.Mathlib.Omega.{arith}
 use borrow.Author.Rules.{rules}
 use lib.ListN.{length, drop, get_or, drop_of_length-le}
 use lib.Seq.{drop-cons}
-use Rattle.rules.specs.Limits.{wordBits}
+use Rattle.rules.specs.Limits.{word_bits}
 use Rattle.objects.specs.Occupancy.{flags, flags_of, used}
 use Rattle.objects.proofs.Words.{used-next, used_le, length-flags}
 use Rattle.objects.proofs.occupancy.count_taken.Statement.{statement}
 use Rattle.objects.proofs.occupancy.count_taken.Tie as tie
 
 -- how many places of the words from k on are taken
-abbrev usedFrom : List ℕ → ℕ → ℕ
-usedFrom ws k = used (flags_of wordBits (drop k ws))
+abbrev used_from : List ℕ → ℕ → ℕ
+used_from ws k = used (flags_of word_bits (drop k ws))
 
-from_next : (ws : List ℕ) (k : ℕ) → k < length ws → usedFrom ws k ≡ used (flags wordBits (get_or ws k 0)) + usedFrom ws (k + 1)
-from_next ws k here = rw (add-one, drop-cons ws k 0 here) (used-next wordBits (get_or ws k 0) _)
+from_next : (ws : List ℕ) (k : ℕ) → k < length ws → used_from ws k ≡ used (flags word_bits (get_or ws k 0)) + used_from ws (k + 1)
+from_next ws k here = rw (add-one, drop-cons ws k 0 here) (used-next word_bits (get_or ws k 0) _)
 
-from-none : (ws : List ℕ) (k : ℕ) → length ws ≤ k → usedFrom ws k ≡ 0
+from-none : (ws : List ℕ) (k : ℕ) → length ws ≤ k → used_from ws k ≡ 0
 unfolding flags_of used
 from-none ws k h = rw (drop_of_length-le ws {i = k} h)
 
 -- a word has no more than its bits
-few : (w : ℕ) → used (flags wordBits w) ≤ wordBits
-few w = omega (arith, used_le (flags wordBits w), length-flags wordBits w)
+few : (w : ℕ) → used (flags word_bits w) ≤ word_bits
+few w = omega (arith, used_le (flags word_bits w), length-flags word_bits w)
 
 abbrev invariant-loop : tie.invariant-loop
-invariant-loop words count₀ k₀ count k = (k ≤ length words) × (count ≤ k * wordBits) × (count + usedFrom words k ≡ used (flags_of wordBits words))
+invariant-loop words count₀ k₀ count k = (k ≤ length words) × (count ≤ k * word_bits) × (count + used_from words k ≡ used (flags_of word_bits words))
 
 abbrev decreases-loop : tie.decreases-loop
 decreases-loop words count₀ k₀ count k = length words - k
@@ -72,8 +72,8 @@ returns c =
     let ws = c.before.before.before.args.words.now in
     omega (arith, c.before.loop.invariant.2, from-none ws c.before.loop.k (omega arith))
 
-pub count-taken-spec : {M : Type 1} → statement M
-count-taken-spec =
+pub count_taken_spec : {M : Type 1} → statement M
+count_taken_spec =
     tie.close
     (tie.spec
     invariant-loop

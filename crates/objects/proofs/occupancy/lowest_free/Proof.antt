@@ -8,29 +8,29 @@ use native.Mathlib.Omega.{arith}
 use borrow.Author.Rules.{rules}
 use lib.ListN.{length, drop, get_or, drop_of_length-le}
 use lib.Seq.{drop-cons}
-use Rattle.rules.specs.Limits.{wordBits}
-use Rattle.objects.specs.Occupancy.{flags, flags_of, lowestFree}
+use Rattle.rules.specs.Limits.{word_bits}
+use Rattle.objects.specs.Occupancy.{flags, flags_of, lowest_free}
 use Rattle.objects.proofs.Words.{lowest-found, lowest-full}
 use Rattle.objects.proofs.occupancy.lowest_free.Statement.{statement}
 use Rattle.objects.proofs.occupancy.lowest_free.Tie as tie
 
 -- the lowest free place of the words from k on
-abbrev lowestFrom : List ℕ → ℕ → ℕ
-lowestFrom ws k = lowestFree (flags_of wordBits (drop k ws))
+abbrev lowest_from : List ℕ → ℕ → ℕ
+lowest_from ws k = lowest_free (flags_of word_bits (drop k ws))
 
 module _ (ws : List ℕ) (k : ℕ) (here : k < length ws) where
-  from_found : lowestFree (flags wordBits (get_or ws k 0)) < wordBits → lowestFrom ws k ≡ lowestFree (flags wordBits (get_or ws k 0))
-  from_found h = rw (drop-cons ws k 0 here) (lowest-found wordBits (get_or ws k 0) _ h)
+  from_found : lowest_free (flags word_bits (get_or ws k 0)) < word_bits → lowest_from ws k ≡ lowest_free (flags word_bits (get_or ws k 0))
+  from_found h = rw (drop-cons ws k 0 here) (lowest-found word_bits (get_or ws k 0) _ h)
 
-  from-full : wordBits ≤ lowestFree (flags wordBits (get_or ws k 0)) → lowestFrom ws k ≡ wordBits + lowestFrom ws (k + 1)
-  from-full h = rw (add-one, drop-cons ws k 0 here) (lowest-full wordBits (get_or ws k 0) _ h)
+  from-full : word_bits ≤ lowest_free (flags word_bits (get_or ws k 0)) → lowest_from ws k ≡ word_bits + lowest_from ws (k + 1)
+  from-full h = rw (add-one, drop-cons ws k 0 here) (lowest-full word_bits (get_or ws k 0) _ h)
 
-from-none : (ws : List ℕ) (k : ℕ) → length ws ≤ k → lowestFrom ws k ≡ 0
-unfolding flags_of lowestFree
+from-none : (ws : List ℕ) (k : ℕ) → length ws ≤ k → lowest_from ws k ≡ 0
+unfolding flags_of lowest_free
 from-none ws k h = rw (drop_of_length-le ws {i = k} h)
 
 abbrev invariant-loop : tie.invariant-loop
-invariant-loop words k₀ k = (k ≤ length words) × (k * wordBits + lowestFrom words k ≡ lowestFree (flags_of wordBits words))
+invariant-loop words k₀ k = (k ≤ length words) × (k * word_bits + lowest_from words k ≡ lowest_free (flags_of word_bits words))
 
 abbrev decreases-loop : tie.decreases-loop
 decreases-loop words k₀ k = length words - k
@@ -83,8 +83,8 @@ returns-2 c =
     let ws = c.before.before.before.args.words.now in
     omega (arith, c.before.loop.invariant.1, from-none ws c.before.loop.k (omega arith))
 
-pub lowest-free-spec : {M : Type 1} → statement M
-lowest-free-spec =
+pub lowest_free_spec : {M : Type 1} → statement M
+lowest_free_spec =
     tie.close
     (tie.spec
     invariant-loop

@@ -4,8 +4,8 @@ use mathlib.Core.Path.{ap}
 use Prim.Native.Nat.{ℕ, ◌/◌}
 use borrow.Author.Rules.{rules}
 use lib.ListN.{set}
-use Rattle.rules.specs.Limits.{wordBits}
-use Rattle.objects.specs.Occupancy.{withFlag}
+use Rattle.rules.specs.Limits.{word_bits}
+use Rattle.objects.specs.Occupancy.{with_flag}
 use Rattle.objects.proofs.occupancy.set_bit.Statement.{statement}
 use Rattle.objects.proofs.occupancy.set_bit.Tie as tie
 
@@ -28,11 +28,11 @@ same_length : tie.Need-same-length
 same_length c = search rules
 
 returns : tie.Need-returns
-unfolding withFlag
-returns c = let s = c.before.before.before.args in ap (λ (w : ℕ). set s.words.now (s.at / wordBits) w) c.with-bit.ensures
+unfolding with_flag
+returns c = let s = c.before.before.before.args in ap (λ (w : ℕ). set s.words.now (s.at / word_bits) w) c.with-bit.ensures
 
-pub set-bit-spec : {M : Type 1} → statement M
-set-bit-spec =
+pub set_bit_spec : {M : Type 1} → statement M
+set_bit_spec =
     tie.close
     (tie.spec
     mul-with-bit

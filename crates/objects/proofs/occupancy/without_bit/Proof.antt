@@ -1,7 +1,7 @@
 -- `without_bit`, by the law of an occupancy word.
 -- Assumes nothing.
 use borrow.Author.Rules.{rules}
-use Rattle.rules.specs.Limits.{wordBits}
+use Rattle.rules.specs.Limits.{word_bits}
 use Rattle.objects.proofs.Words.{and_flags}
 use Rattle.objects.proofs.occupancy.without_bit.Statement.{statement}
 use Rattle.objects.proofs.occupancy.without_bit.Tie as tie
@@ -10,7 +10,7 @@ shl-result : tie.Need-overflow-shl-result
 shl-result c = search rules
 
 returns : tie.Need-returns
-returns c = and_flags wordBits c.args.bits c.ranges.bits.fits c.args.at c.requires
+returns c = and_flags word_bits c.args.bits c.ranges.bits.fits c.args.at c.requires
 
-pub without-bit-spec : {M : Type 1} → statement M
-without-bit-spec = tie.close (tie.spec shl-result returns)
+pub without_bit_spec : {M : Type 1} → statement M
+without_bit_spec = tie.close (tie.spec shl-result returns)

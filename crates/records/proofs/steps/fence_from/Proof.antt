@@ -13,5 +13,5 @@ returns-2 c = rw (ne_eqb c.before.before.args.who 0 c.before.if1.false, eq-eqb c
 returns-3 : tie.Need-returns-3
 returns-3 c = rw (ne_eqb c.before.before.args.who 0 c.before.if1.false, ne_eqb c.before.before.args.who 1 c.if2.false)
 
-pub fence-from-spec : {M : Type 1} → statement M
-fence-from-spec = tie.close (tie.spec returns returns-2 returns-3)
+pub fence_from_spec : {M : Type 1} → statement M
+fence_from_spec = tie.close (tie.spec returns returns-2 returns-3)

@@ -35,8 +35,8 @@ returns-9 c = rw c.before.before.before.before.kind9.given.1 (c.three3.ensures �
 returns-10 : tie.Need-returns-10
 returns-10 c = rw c.before.enum_told.given.1 (c.one.ensures ∙ rw c.before.before.before.time.ensures)
 
-pub step-fields-spec : {M : Type 1} → statement M
-step-fields-spec =
+pub step_fields_spec : {M : Type 1} → statement M
+step_fields_spec =
     tie.close
     (tie.spec
     (λ c κs. tt)

@@ -15,5 +15,5 @@ returns-2 c = rw (ne_eqb c.before.before.before.args.p.at 0 c.if2.true, and-fals
 returns-3 : tie.Need-returns-3
 returns-3 c = rw (eq-eqb c.before.before.before.args.width 0 c.before.before.if1.false, eq-eqb c.before.before.before.args.p.at 0 c.if2.false)
 
-pub first-list-spec : {M : Type 1} → statement M
-first-list-spec = tie.close (tie.spec returns returns-2 returns-3)
+pub first_list_spec : {M : Type 1} → statement M
+first_list_spec = tie.close (tie.spec returns returns-2 returns-3)

@@ -45,8 +45,8 @@ returns-5 c =
     let size : 3 + n - 3 ≡ n = omega arith in
     rw (reads c.before.before.before.before.before.before.before, ne_eqb c.before.before.before.before.before.before.before.before.before.before.before.args.f.width 0 c.before.before.before.before.if1.false, eq-eqb n _ c.before.before.if3.false, c.number.ensures, size)
 
-pub read-field-spec : {M : Type 1} → statement M
-read-field-spec =
+pub read_field_spec : {M : Type 1} → statement M
+read_field_spec =
     tie.close
     (tie.spec
     (λ c κs. tt)

@@ -9,20 +9,20 @@ use lib.ListN.{length, get_or, take, drop, replicate, length-set, length-drop, d
 use borrow.Author.Tests.{not-true, not-false}
 use Rattle.records.specs.declared.Field.{Field}
 use Rattle.records.specs.declared.Held.{Held}
-use Rattle.records.specs.Format.{mostFields, inner}
+use Rattle.records.specs.Format.{most_fields, inner}
 use Rattle.records.specs.Walk.{walk}
-use Rattle.records.specs.Found.{held, placedAll}
-use Rattle.records.proofs.Places.{rest-cons, rest-none, take-set, tail}
+use Rattle.records.specs.Found.{held, placed_all}
+use Rattle.records.proofs.Places.{rest_cons, rest-none, take-set, tail}
 use Rattle.records.proofs.Fronts.{held-room}
-use Rattle.records.proofs.Joined.{joined, joined-none, joined-field, joined-absent, joined_end, walk-left, walk_none, zeros-next, first-within, first-none}
+use Rattle.records.proofs.Joined.{joined, joined-none, joined-field, joined-absent, joined_end, walk-left, walk_none, zeros_next, first-within, first-none}
 use Rattle.records.proofs.walking.walk.Statement.{statement}
 use Rattle.records.proofs.walking.walk.Tie as tie
 
 abbrev invariant-loop : tie.invariant-loop
 invariant-loop bytes fields n numbers₀ list₀ at₀ i₀ numbers list at i =
-    (i ≤ n) × (at ≤ length bytes) × (length numbers ≡ mostFields)
+    (i ≤ n) × (at ≤ length bytes) × (length numbers ≡ most_fields)
     × (list.at + 8 * list.count ≤ length bytes) × (list.at ≡ 0 → list.count ≡ 0)
-    × (drop i numbers ≡ replicate (mostFields - i) 0)
+    × (drop i numbers ≡ replicate (most_fields - i) 0)
     × (joined bytes (take i numbers) list (walk (drop i (take n fields.items)) (drop at bytes)) ≡ walk (take n fields.items) bytes)
 
 abbrev decreases-loop : tie.decreases-loop
@@ -45,7 +45,7 @@ comes : (c : tie.After-read-field invariant-loop decreases-loop)
     ≡ walk (take c.before.before.before.before.before.before.args.t2.count c.before.before.before.before.before.before.args.t2.items) c.before.before.before.before.before.before.args.bytes.now
 comes c =
     let a = c.before.before.before.before.before.before.args in
-    rw (rest-cons a.t2.items a.t2.count c.before.before.before.before.loop.i (inner 0 0 0) c.before.before.before.loop-test.true (omega arith)) at c.before.before.before.before.loop.invariant.6
+    rw (rest_cons a.t2.items a.t2.count c.before.before.before.before.loop.i (inner 0 0 0) c.before.before.before.loop-test.true (omega arith)) at c.before.before.before.before.loop.invariant.6
 
 -- past the test it is there
 there : (c : tie.Else1 invariant-loop decreases-loop) → (front c.before.before).whole ≡ true
@@ -64,7 +64,7 @@ returns c =
     let l = c.before.before.before.before.before.before.before.loop in
     let a = c.before.before.before.before.before.before.before.before.before.args in
     let no = sym (ap (λ (h : Held). h.whole) (is_front c.before.before.before)) ∙ not-true _ c.before.if1.true in
-    rw c.broken.ensures (ap placedAll (sym (joined-absent a.bytes.now (take l.i l.numbers) l.list (field c.before.before.before) _ l.at no) ∙ comes c.before.before.before), omega arith)
+    rw c.broken.ensures (ap placed_all (sym (joined-absent a.bytes.now (take l.i l.numbers) l.list (field c.before.before.before) _ l.at no) ∙ comes c.before.before.before), omega arith)
 
 add_a : tie.Need-overflow-add-a invariant-loop decreases-loop
 add_a c = omega (arith, room c)
@@ -83,7 +83,7 @@ loop-again c =
       length-set l.numbers l.i h.number ∙ l.invariant.2,
       rw c.before.first-list.ensures (first-within l.list (field c.before.before.before.before).width (l.at + 3) h.len (length a.bytes.now) l.invariant.3 fits),
       rw c.before.first-list.ensures (first-none l.list (field c.before.before.before.before).width (l.at + 3) h.len (omega arith) l.invariant.4),
-      zeros-next l.numbers l.i h.number (omega arith) l.invariant.5,
+      zeros_next l.numbers l.i h.number (omega arith) l.invariant.5,
       rw (take-set l.numbers l.i h.number (omega arith), c.before.first-list.ensures, is_front c.before.before.before.before)
           (sym (joined-field a.bytes.now (take l.i l.numbers) l.list (field c.before.before.before.before) _ l.at (there c.before.before)) ∙ comes c.before.before.before.before),
     )
@@ -93,7 +93,7 @@ returns-2 c =
     let l = c.before.before.before.loop in
     let a = c.before.before.before.before.before.args in
     let left = walk-left (drop l.at a.bytes.now) (omega (arith, length-drop l.at a.bytes.now)) in
-    rw c.broken2.ensures (ap placedAll (rw (rest-none a.t2.items a.t2.count l.i c.before.before.loop-test.false, left) at l.invariant.6), omega arith)
+    rw c.broken2.ensures (ap placed_all (rw (rest-none a.t2.items a.t2.count l.i c.before.before.loop-test.false, left) at l.invariant.6), omega arith)
 
 returns-3 : tie.Need-returns-3 invariant-loop decreases-loop
 returns-3 c =
@@ -101,10 +101,10 @@ returns-3 c =
     let a = c.before.before.before.before.args in
     let none = drop_of_length-le a.bytes.now {i = l.at} c.if2.false in
     let all = rw (rest-none a.t2.items a.t2.count l.i c.before.loop-test.false, none, walk_none) at l.invariant.6 in
-    (joined_end a.bytes.now l.numbers l.list l.i l.invariant.2 (omega arith) l.invariant.5 l.invariant.4 ∙ ap placedAll all, l.invariant.3)
+    (joined_end a.bytes.now l.numbers l.list l.i l.invariant.2 (omega arith) l.invariant.5 l.invariant.4 ∙ ap placed_all all, l.invariant.3)
 
-pub walk-spec : {M : Type 1} → statement M
-walk-spec =
+pub walk_spec : {M : Type 1} → statement M
+walk_spec =
     tie.close
     (tie.spec
     invariant-loop

@@ -12,5 +12,5 @@ returns c = sym (length-list c.before.before.args.list.now c.before.before.args.
 returns-2 : tie.Need-returns-2
 returns-2 c = sym (length-number c.before.before.args.list.now c.before.before.args.f c.if1.false)
 
-pub content-size-spec : {M : Type 1} → statement M
-content-size-spec = tie.close (tie.spec (λ c. search rules) returns returns-2)
+pub content_size_spec : {M : Type 1} → statement M
+content_size_spec = tie.close (tie.spec (λ c. search rules) returns returns-2)

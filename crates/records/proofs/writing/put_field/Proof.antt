@@ -57,8 +57,8 @@ returns-2 c =
     in
     rw (is, c.before.before.put-number.ensures, size) (filled a.f.tag (be a.f.width a.f.number) a.out.now o (rw is at (room c.before.before.before.before.before.before.before.before.before.before.before.before)) put.ensures)
 
-pub put-field-spec : {M : Type 1} → statement M
-put-field-spec =
+pub put_field_spec : {M : Type 1} → statement M
+put_field_spec =
     tie.close
     (tie.spec
     sub-put-head

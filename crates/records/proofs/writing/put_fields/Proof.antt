@@ -10,8 +10,8 @@ use borrow.Rule.Slice.PartMut.{same_len_mid}
 use Rattle.fields.specs.Fields.{field}
 use Rattle.fields.proofs.Fields.{length-field}
 use Rattle.records.specs.Format.{inner, content, bytes_of}
-use Rattle.records.proofs.Places.{rest-cons, rest-none}
-use Rattle.records.proofs.Pieces.{bytes-cons, bytes-none, length-cons, take_part}
+use Rattle.records.proofs.Places.{rest_cons, rest-none}
+use Rattle.records.proofs.Pieces.{bytes_cons, bytes-none, length_cons, take_part}
 use Rattle.records.proofs.writing.put_fields.Statement.{statement}
 use Rattle.records.proofs.writing.put_fields.Tie as tie
 
@@ -30,8 +30,8 @@ room : (c : tie.After-content-size invariant-loop decreases-loop)
 room c =
     let l = c.before.before.before.loop in
     let a = c.before.before.before.before.before.before.args in
-    let cons = rest-cons a.t1.items a.t1.count l.i (inner 0 0 0) c.before.before.loop-test.true (omega arith) in
-    omega (arith, rw (cons, length-cons a.list.now) at l.invariant.2, c.content-size.ensures)
+    let cons = rest_cons a.t1.items a.t1.count l.i (inner 0 0 0) c.before.before.loop-test.true (omega arith) in
+    omega (arith, rw (cons, length_cons a.list.now) at l.invariant.2, c.content-size.ensures)
 
 loop-holds : tie.Need-loop-init invariant-loop decreases-loop
 loop-holds c = (omega arith, refl, omega arith, refl)
@@ -62,12 +62,12 @@ loop-again c =
     let a = c.before.before.before.before.before.before.before.before.before.before.args in
     let put = c.before.before.put-field in
     let f = get_or a.t1.items l.i (inner 0 0 0) in
-    let cons = rest-cons a.t1.items a.t1.count l.i (inner 0 0 0) c.before.before.before.before.before.before.loop-test.true (omega arith) in
+    let cons = rest_cons a.t1.items a.t1.count l.i (inner 0 0 0) c.before.before.before.before.before.before.loop-test.true (omega arith) in
     let size = length-field f.tag (content a.list.now f) in (
       omega arith,
       same_len_mid l.at (l.at + 3 + c.before.before.before.before.content-size.result - l.at) l.out put.new.1.1.0 put.auto.1.1.0 ∙ l.invariant.1,
       omega (arith, room c.before.before.before.before, l.invariant.1),
-      rw (put.ensures, take_part l.at (l.at + 3 + c.before.before.before.before.content-size.result) (field f.tag (content a.list.now f)) l.out _ (omega (arith, size, c.before.before.before.before.content-size.ensures)) (omega (arith, room c.before.before.before.before)), append_assoc) (rw (cons, bytes-cons a.list.now) at l.invariant.3),
+      rw (put.ensures, take_part l.at (l.at + 3 + c.before.before.before.before.content-size.result) (field f.tag (content a.list.now f)) l.out _ (omega (arith, size, c.before.before.before.before.content-size.ensures)) (omega (arith, room c.before.before.before.before)), append_assoc) (rw (cons, bytes_cons a.list.now) at l.invariant.3),
     )
 
 same_length : tie.Need-same-length invariant-loop decreases-loop
@@ -80,8 +80,8 @@ returns c =
     let none = rest-none a.t1.items a.t1.count l.i c.loop-test.false in
     sym (take_all l.at l.out (omega (arith, rw (none, bytes-none a.list.now) at l.invariant.2))) ∙ sym (append-nil (take l.at l.out)) ∙ rw (none, bytes-none a.list.now) at l.invariant.3
 
-pub put-fields-spec : {M : Type 1} → statement M
-put-fields-spec =
+pub put_fields_spec : {M : Type 1} → statement M
+put_fields_spec =
     tie.close
     (tie.spec
     invariant-loop

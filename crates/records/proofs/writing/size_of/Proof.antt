@@ -7,8 +7,8 @@ use lib.ListN.{length, get_or, take, drop}
 use Rattle.rules.specs.Limits.{limits}
 use Rattle.records.specs.Format.{inner, bytes_of}
 use Rattle.records.specs.Found.{is_narrow}
-use Rattle.records.proofs.Places.{rest-cons, rest-none, all-at}
-use Rattle.records.proofs.Pieces.{bytes-none, length-cons, content-short}
+use Rattle.records.proofs.Places.{rest_cons, rest-none, all-at}
+use Rattle.records.proofs.Pieces.{bytes-none, length_cons, content-short}
 use Rattle.records.proofs.writing.size_of.Statement.{statement}
 use Rattle.records.proofs.writing.size_of.Tie as tie
 
@@ -38,8 +38,8 @@ loop-again : tie.Need-loop-preserved invariant-loop decreases-loop
 loop-again c =
     let l = c.before.before.before.loop in
     let a = c.before.before.before.before.before.args in
-    let cons = rest-cons a.t1.items a.t1.count l.i (inner 0 0 0) c.before.before.loop-test.true (omega arith) in
-    let sum = rw (cons, length-cons a.list.now) at l.invariant.2 in
+    let cons = rest_cons a.t1.items a.t1.count l.i (inner 0 0 0) c.before.before.loop-test.true (omega arith) in
+    let sum = rw (cons, length_cons a.list.now) at l.invariant.2 in
     (omega arith, omega (arith, short c), omega (arith, sum, c.content-size.ensures))
 
 returns : tie.Need-returns invariant-loop decreases-loop
@@ -49,8 +49,8 @@ returns c =
     let all = rw (rest-none a.t1.items a.t1.count l.i c.loop-test.false, bytes-none a.list.now) at l.invariant.2 in
     (omega (arith, all), omega arith)
 
-pub size-of-spec : {M : Type 1} → statement M
-size-of-spec =
+pub size_of_spec : {M : Type 1} → statement M
+size_of_spec =
     tie.close
     (tie.spec
     invariant-loop

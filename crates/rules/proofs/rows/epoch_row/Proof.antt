@@ -17,5 +17,5 @@ returns-3 : tie.Need-returns-3
 unfolding first_of
 returns-3 c = rw (ne_eqb _ _ c.before.if1.false, le-ltb _ _ c.if2.false)
 
-pub epoch-row-spec : {M : Type 1} → statement M
-epoch-row-spec = tie.close (tie.spec returns returns-2 returns-3)
+pub epoch_row_spec : {M : Type 1} → statement M
+epoch_row_spec = tie.close (tie.spec returns returns-2 returns-3)

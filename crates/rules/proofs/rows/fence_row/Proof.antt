@@ -22,5 +22,5 @@ returns-4 : tie.Need-returns-4
 unfolding first_of
 returns-4 c = rw (ne_eqb _ _ c.before.before.if1.false, le-ltb _ _ c.before.if2.false, le-ltb c.before.before.before.args.epoch c.before.before.before.args.current (omega (arith, c.if3.false)))
 
-pub fence-row-spec : {M : Type 1} → statement M
-fence-row-spec = tie.close (tie.spec returns returns-2 returns-3 returns-4)
+pub fence_row_spec : {M : Type 1} → statement M
+fence_row_spec = tie.close (tie.spec returns returns-2 returns-3 returns-4)

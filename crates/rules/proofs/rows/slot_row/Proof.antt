@@ -28,5 +28,5 @@ returns-3 c =
     let a = c.before.if1.false in
     rw (lt-leb s.slot s.current (omega arith), le-ltb (suc s.current) s.slot (omega arith))
 
-pub slot-row-spec : {M : Type 1} → statement M
-slot-row-spec = tie.close (tie.spec returns sub-if2 returns-2 returns-3)
+pub slot_row_spec : {M : Type 1} → statement M
+slot_row_spec = tie.close (tie.spec returns sub-if2 returns-2 returns-3)
