@@ -21,7 +21,7 @@ pub const MALFORMED: u8 = 2;
 pub const OTHER_SHEET: u8 = 30;
 
 // What a look comes to: its code, the object in force or 0, and the next ledger.
-#[derive(Drop)]
+#[derive(Clone, Copy)]
 pub struct Looked {
     pub code: u8,
     pub object: u64,
@@ -29,13 +29,13 @@ pub struct Looked {
 }
 
 // A sale: charged so many units of the currency, or refused with a number.
-#[derive(Drop)]
+#[derive(Clone, Copy)]
 pub enum Sale {
     Charged(u64),
     Refused(u8),
 }
 
-#[derive(Drop)]
+#[derive(Clone, Copy)]
 pub struct SaleAnswer {
     pub sale: Sale,
     pub ledger: Ledger,
@@ -158,14 +158,14 @@ pub fn sell(
 
 // The route card
 
-#[derive(Drop)]
+#[derive(Clone, Copy)]
 pub struct Entry {
     pub currency: u16,
     pub code: u8,
     pub object: u64,
 }
 
-#[derive(Drop)]
+#[derive(Clone, Copy)]
 pub struct Filled {
     pub entry: Entry,
     pub ledger: Ledger,
@@ -189,7 +189,7 @@ fn fill_entry(ledger: Ledger, time: u64, hold: u64, entry: Entry) -> Filled
 }
 
 // Code 0 is a card that was filled in.
-#[derive(Drop)]
+#[derive(Clone, Copy)]
 pub struct CardAnswer {
     pub code: u8,
     pub ledger: Ledger,
@@ -225,7 +225,7 @@ pub fn fill_card(
 // The entries of a row by value.
 pub const ROW: usize = 64;
 
-#[derive(Drop)]
+#[derive(Clone, Copy)]
 pub struct RowFilled {
     pub code: u8,
     pub ledger: Ledger,

@@ -22,7 +22,7 @@ pub const MALFORMED: u64 = 2;
 pub const NO_PLACE: u64 = 3;
 
 // An answer, or numbers that say none.
-#[derive(Drop)]
+#[derive(Clone, Copy)]
 pub enum AnswerRead {
     Known(Answer),
     Unknown,

@@ -1,19 +1,20 @@
 // Big-endian numbers and tagged fields in byte slices (document 01, "Records and names"). `pair`, `eight`, `read_words`,
 // `put_words` and `put_head` ask for the room that they read or fill; they serve the crates above and are no operation
 // of the ledger's.
+#![tactic(auto)]
 ghost use Rattle.std.specs.Prelude.{◌≡◌, ◌+◌, ◌*◌, ◌≤◌, ◌<◌, ◌∷◌, length, take, drop};
 ghost use Rattle.fields.specs.Bytes.{be, value_of, kept64, words, words_of};
 ghost use Rattle.fields.specs.Fields.{head_of, over, next_of};
 
 // A field's head: how many bytes its value has, or that it is not there.
-#[derive(Drop)]
+#[derive(Clone, Copy)]
 pub enum Head {
     Holds(usize),
     Bad,
 }
 
 // What stands at the front of a trace.
-#[derive(Drop)]
+#[derive(Clone, Copy)]
 pub enum Next {
     // nothing is left
     End,

@@ -24,7 +24,7 @@ use Rattle.holds.specs.Holds.{no_hold, holds_of, lay_holds, is_no_hold, is_laid,
 use Rattle.holds.specs.contracts.Holds as holds
 
 pub items_long : (h : Holds) (vs : List Val) → Is holds.the_row h vs → length h.items ≡ 8
-items_long h vs is = sym (length-map h.items (hold.the_field).into) ∙ is.1.1.1.0.1.0.1
+items_long h vs is = is.1.1.1.0.1.0.1
 
 -- the places of no holds
 pub none_items : {h : Holds} → h ≡ lay_holds [] → h.items ≡ replicate 8 no_hold

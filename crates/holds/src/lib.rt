@@ -1,4 +1,6 @@
 // The holds of a ledger (a hold is a snapshot in source document 000): at most eight, packed in rising number.
+#![tactic(auto)]
+
 ghost use Rattle.std.specs.Prelude.{◌≡◌, true, [], map, ◌≤◌, ◌<◌};
 ghost use Rattle.rules.specs.Limits.{limits};
 ghost use Rattle.rules.specs.Lists.{keep, all, rising_above};
@@ -9,7 +11,7 @@ ghost use Rattle.holds.specs.Holds.{holds_of, lay_holds, is_no_hold, is_laid, ha
 use rules::{HOLDS, Hold};
 
 // The first `count` places hold; the others are all zero.
-#[derive(Drop)]
+#[derive(Clone, Copy)]
 pub struct Holds {
     pub count: usize,
     pub items: [Hold; HOLDS],

@@ -50,7 +50,7 @@ pub fn longest_image() -> usize
 }
 
 // What stands at the front of bytes as a row: the numbers of its columns, 0 in the places behind them, and how many names it has.
-#[derive(Drop)]
+#[derive(Clone, Copy)]
 pub(crate) struct Line {
     pub found: bool,
     pub size: usize,
@@ -59,14 +59,14 @@ pub(crate) struct Line {
 }
 
 // A place, with the object whose row stands at the front, or free.
-#[derive(Drop)]
+#[derive(Clone, Copy)]
 pub(crate) struct Spot {
     pub taken: bool,
     pub object: Object,
 }
 
 // A manifest whose row stands at the front, and how many bytes it has.
-#[derive(Drop)]
+#[derive(Clone, Copy)]
 pub(crate) struct ManifestFound {
     pub found: bool,
     pub size: usize,
@@ -74,7 +74,7 @@ pub(crate) struct ManifestFound {
 }
 
 // A hold whose row stands at the front, and how many bytes it has.
-#[derive(Drop)]
+#[derive(Clone, Copy)]
 pub(crate) struct HoldFound {
     pub found: bool,
     pub size: usize,
@@ -82,33 +82,33 @@ pub(crate) struct HoldFound {
 }
 
 // The objects, the manifests and the holds that rows say, and how many bytes the rows have.
-#[derive(Drop)]
+#[derive(Clone, Copy)]
 pub(crate) struct ObjectsRead {
     pub objects: Objects,
     pub size: usize,
 }
 
-#[derive(Drop)]
+#[derive(Clone, Copy)]
 pub(crate) struct ManifestsRead {
     pub manifests: Manifests,
     pub size: usize,
 }
 
-#[derive(Drop)]
+#[derive(Clone, Copy)]
 pub(crate) struct HoldsRead {
     pub holds: Holds,
     pub size: usize,
 }
 
 // The ledger that the rows say, and whether nothing stands behind them.
-#[derive(Drop)]
+#[derive(Clone, Copy)]
 pub(crate) struct RowsRead {
     pub whole: bool,
     pub ledger: Ledger,
 }
 
 // What the reader answers: 1 is Unsound, 2 is Malformed.
-#[derive(Drop)]
+#[derive(Clone, Copy)]
 pub enum Reading {
     Read,
     Unsound,
@@ -116,14 +116,14 @@ pub enum Reading {
 }
 
 // The ledger that was read, or the fresh one beside a refusal.
-#[derive(Drop)]
+#[derive(Clone, Copy)]
 pub struct ImageRead {
     pub reading: Reading,
     pub ledger: Ledger,
 }
 
 // What the writer answers: the bytes written; 1 is Unsound.
-#[derive(Drop)]
+#[derive(Clone, Copy)]
 pub enum ImageWrite {
     Written(usize),
     Unsound,

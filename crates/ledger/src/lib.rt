@@ -13,7 +13,7 @@ use manifests::Manifests;
 use objects::Objects;
 use rules::Verdict;
 
-#[derive(Drop)]
+#[derive(Clone, Copy)]
 pub struct Ledger {
     pub clock: u64,
     // the highest object number ever collected
@@ -24,7 +24,7 @@ pub struct Ledger {
 }
 
 // A step's answer, with the next ledger inside it.
-#[derive(Drop)]
+#[derive(Clone, Copy)]
 pub struct StepAnswer {
     pub verdict: Verdict,
     pub ledger: Ledger,

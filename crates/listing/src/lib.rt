@@ -1,5 +1,7 @@
 // A listing of the store's bucket (document 02, request 5): names with their folders, a line each. What it says of the
 // manifests and objects, up to the first line that is bad.
+#![tactic(auto)]
+
 ghost use Rattle.std.specs.Prelude.{◌≡◌, ◌<◌};
 ghost use Rattle.store_names.specs.Decimal.{largest};
 ghost use Rattle.listing.specs.Lines.{below};
@@ -12,7 +14,7 @@ use store_names::{Name, NameRead};
 const LINE_END: u8 = 10;
 
 // A number, or none.
-#[derive(Drop)]
+#[derive(Clone, Copy)]
 pub enum Optional {
     None,
     Some(u64),
@@ -20,7 +22,7 @@ pub enum Optional {
 
 // What a listing says: the highest manifest and the number of objects of the lines before the first bad one, and which line
 // that is, counted from 0.
-#[derive(Drop)]
+#[derive(Clone, Copy)]
 pub struct Listing {
     pub manifest: Optional,
     pub objects: u64,

@@ -11,7 +11,7 @@ use replay::Front;
 use verdicts::LONGEST_VERDICT;
 
 // What is found of a log.
-#[derive(Drop)]
+#[derive(Clone, Copy)]
 pub enum Checked {
     Agree,
     // the index of the first record whose verdict differs, is missing or is one too many, or where either side is torn
@@ -19,7 +19,7 @@ pub enum Checked {
 }
 
 // What is found of a log where the run starts from an image.
-#[derive(Drop)]
+#[derive(Clone, Copy)]
 pub enum CheckedFrom {
     Loaded(Checked),
     // the number that refuses the image

@@ -13,7 +13,7 @@ use holds::Holds;
 use rules::{MANIFESTS, NAMES};
 
 // The names are the first `count` places; the others are 0.
-#[derive(Drop)]
+#[derive(Clone, Copy)]
 pub struct KeptManifest {
     pub number: u64,
     pub writer: u64,
@@ -23,14 +23,14 @@ pub struct KeptManifest {
 }
 
 // The first `count` places; the others are all zero.
-#[derive(Drop)]
+#[derive(Clone, Copy)]
 pub struct Manifests {
     pub count: usize,
     pub items: [KeptManifest; MANIFESTS],
 }
 
 // What the reach test finds, and how many names of the list in each place it read.
-#[derive(Drop)]
+#[derive(Clone, Copy)]
 pub struct Reach {
     pub found: bool,
     pub reads: [usize; MANIFESTS],

@@ -33,10 +33,10 @@ use Rattle.objects.proofs.Words.{occupancy-by_words, length-words}
 use Rattle.objects.specs.contracts.Objects as objects
 
 pub items_long : (o : Objects) (vs : List Val) → Is objects.the_row o vs → length o.items ≡ limits.places
-items_long o vs is = sym (length-map o.items (object.the_field).into) ∙ is.1.1.1.0.1.0.1
+items_long o vs is = is.1.1.1.0.1.0.1
 
 pub words_long : (o : Objects) (vs : List Val) → Is objects.the_row o vs → length o.occupancy ≡ word_count
-words_long o vs is = sym (length-map o.occupancy u64-field.into) ∙ is.1.1.0.1.0.1
+words_long o vs is = is.1.1.0.1.0.1
 
 -- Numbers that are looked up among those of the places
 

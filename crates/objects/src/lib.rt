@@ -1,4 +1,6 @@
 // The stored objects of a ledger in their places, and the words whose bits say which are taken.
+#![tactic(auto)]
+
 mod occupancy;
 
 ghost use Rattle.std.specs.Prelude.{◌≡◌, true, not, map, ◌≤◌, ◌<◌, leb, ltb, length, drop, replicate};
@@ -25,7 +27,7 @@ pub fn no_object() -> Object
     }
 }
 
-#[derive(Drop)]
+#[derive(Clone, Copy)]
 pub struct Objects {
     pub occupancy: [u64; WORDS],
     pub items: [Object; PLACES],

@@ -1,4 +1,6 @@
 // Step records, and what any record is made of (document 01, "Records and names"): read and written, each undoing the other.
+#![tactic(auto)]
+
 mod format;
 mod steps;
 mod walking;
@@ -15,7 +17,7 @@ pub use writing::write_record;
 pub const FIELDS: usize = 6;
 
 // An inner field: its tag and its number in so many bytes. Width 0 is the list, which stands beside the fields.
-#[derive(Drop)]
+#[derive(Clone, Copy)]
 pub struct Field {
     pub tag: u8,
     pub width: usize,
@@ -23,14 +25,14 @@ pub struct Field {
 }
 
 // The inner fields of a record: the first `count` places; the others are 0.
-#[derive(Drop)]
+#[derive(Clone, Copy)]
 pub struct Fields {
     pub count: usize,
     pub items: [Field; FIELDS],
 }
 
 // The field at the front of some bytes: its length and its number, 0 of the list; or that it isn't there.
-#[derive(Drop)]
+#[derive(Clone, Copy)]
 pub struct Held {
     pub whole: bool,
     pub len: usize,
@@ -38,14 +40,14 @@ pub struct Held {
 }
 
 // Where the list of a record stands and how many numbers it has. A place at 0 is none.
-#[derive(Drop)]
+#[derive(Clone, Copy)]
 pub struct Place {
     pub at: usize,
     pub count: usize,
 }
 
 // What a walk over the inner fields finds: a number for each, and where the list stands and how many numbers it has.
-#[derive(Drop)]
+#[derive(Clone, Copy)]
 pub struct Walk {
     pub whole: bool,
     pub numbers: [u64; FIELDS],
@@ -54,28 +56,28 @@ pub struct Walk {
 }
 
 // A kind, or an outer tag or a role that no kind has.
-#[derive(Drop)]
+#[derive(Clone, Copy)]
 pub enum KindRead {
     Known(Kind),
     Unknown,
 }
 
 // What a record reader answers. Malformed is the paper's number 2.
-#[derive(Drop)]
+#[derive(Clone, Copy)]
 pub enum Reading {
     Read,
     Malformed,
 }
 
 // The step beside Malformed is the COLLECT of time 0.
-#[derive(Drop)]
+#[derive(Clone, Copy)]
 pub struct StepRead {
     pub reading: Reading,
     pub step: Step,
 }
 
 // What a record writer answers: the count of bytes, the paper's number 2 for what no reader takes, or that room is short.
-#[derive(Drop)]
+#[derive(Clone, Copy)]
 pub enum Write {
     Written(usize),
     Malformed,

@@ -10,7 +10,7 @@ use ledger::{Ledger, StepAnswer};
 use records::{Reading, Write};
 
 // What becomes of the front of a trace.
-#[derive(Drop)]
+#[derive(Clone, Copy)]
 pub enum Front {
     // nothing is left
     End,
@@ -23,14 +23,14 @@ pub enum Front {
 }
 
 // What becomes of it, and the next ledger.
-#[derive(Drop)]
+#[derive(Clone, Copy)]
 pub struct Stepped {
     pub front: Front,
     pub ledger: Ledger,
 }
 
 // How a run ends.
-#[derive(Drop)]
+#[derive(Clone, Copy)]
 pub enum Ending {
     Whole,
     Torn,
@@ -38,7 +38,7 @@ pub enum Ending {
 }
 
 // How a run ended, the last ledger, and the bytes read and written.
-#[derive(Drop)]
+#[derive(Clone, Copy)]
 pub struct Ran {
     pub ending: Ending,
     pub ledger: Ledger,

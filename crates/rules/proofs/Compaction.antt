@@ -245,7 +245,7 @@ history_more : (L : Limits) (s : State) (h : History) (asks : List Ask) (a : Ask
     → history_from h (events_from L (sound L) s (asks ++ a ∷ [])) ≡ feed (history_from h (events_from L (sound L) s asks)) (accepted a)
 unfolding history_from events_from ledger_from
 history_more L s h [] a e = ap (λ (b : Bool). feed h (record { request = a.request; accepted = b })) e
-history_more L s h (b ∷ asks) a e = history_more L _ _ asks a e
+history_more L s h (b ∷ asks) a e = history_more L (next L (sound L) s b) _ asks a e
 
 -- the current manifest's objects of a currency are the rates by the history
 current-rates : {L : Limits} (s : State) (h : History) → Agrees L s h → (t c : ℕ) → s.clock ≤ t → in_current s c ≡ rates_at t h c 0

@@ -123,7 +123,7 @@ module _ (L : Limits) (test : State → Bool) where
   pub run-keeps : (s : State) (h : History) (asks : List Ask) → Agrees L s h → Agrees L (ledger_from L test s asks) (history_from h (events_from L test s asks))
   unfolding ledger_from history_from events_from
   run-keeps s h [] r = r
-  run-keeps s h (a ∷ asks) r = run-keeps _ _ asks (step_keeps s h a r)
+  run-keeps s h (a ∷ asks) r = run-keeps (next L test s a) _ asks (step_keeps s h a r)
 
   module _ (s : State) (h : History) (r : Agrees L s h) where
     collect-exact : (t : ℕ) (l : List ℕ) (room : ℕ) → accepts L test s (record { request = Asked t COLLECT l; room = room }) ≡ true

@@ -132,7 +132,7 @@ module _ (L M : Limits) (raised : Raised L M) (k : ℕ) where
   replies-same s both (a ∷ asks) e =
       let u = unmet L s a asks e in
       ap₂ ◌∷◌ (reply-same L M raised k s both a.request u)
-      (ap (λ (z : State). replies_from M z asks) (next-wide L M raised k s both a u) ∙ replies-same _ (next_both L M raised k s both a u) asks (unmet_rest L s a asks e))
+      (ap (λ (z : State). replies_from M z asks) (next-wide L M raised k s both a u) ∙ replies-same (next L (sound L) s a) (next_both L M raised k s both a u) asks (unmet_rest L s a asks e))
 
   events-same : (s : State) → Both L M k s → (asks : List Ask) → never_met L s asks ≡ true → events_from M (sound M) (widen k s) asks ≡ events_from L (sound L) s asks
   unfolding events_from
@@ -140,7 +140,7 @@ module _ (L M : Limits) (raised : Raised L M) (k : ℕ) where
   events-same s both (a ∷ asks) e =
       let u = unmet L s a asks e in
       ap₂ ◌∷◌ (ap (λ (b : Bool). record { request = a.request; accepted = b }) (accepts-same L M raised k s both a u))
-      (ap (λ (z : State). events_from M (sound M) z asks) (next-wide L M raised k s both a u) ∙ events-same _ (next_both L M raised k s both a u) asks (unmet_rest L s a asks e))
+      (ap (λ (z : State). events_from M (sound M) z asks) (next-wide L M raised k s both a u) ∙ events-same (next L (sound L) s a) (next_both L M raised k s both a u) asks (unmet_rest L s a asks e))
 
 module _ (L M : Limits) (raised : Raised L M) where
   -- the places that are added

@@ -174,4 +174,4 @@ next-sound L test s a e = step (accepts L test s a) refl
 pub ledger_from-sound : (L : Limits) (test : State → Bool) (s : State) (asks : List Ask) → sound L s ≡ true → sound L (ledger_from L test s asks) ≡ true
 unfolding ledger_from
 ledger_from-sound L test s [] e = e
-ledger_from-sound L test s (a ∷ asks) e = ledger_from-sound L test _ asks (next-sound L test s a e)
+ledger_from-sound L test s (a ∷ asks) e = ledger_from-sound L test (next L test s a) asks (next-sound L test s a e)

@@ -97,12 +97,12 @@ module _ (L : Limits) where
   ledger_after_lem : (s : State) (asks : List Ask) → ledger_from L (sound L) s asks ≡ after (next L (sound L)) s asks
   unfolding ledger_from after
   ledger_after_lem s [] = refl
-  ledger_after_lem s (a ∷ asks) = ledger_after_lem _ asks
+  ledger_after_lem s (a ∷ asks) = ledger_after_lem (next L (sound L) s a) asks
 
   replies-each : (s : State) (asks : List Ask) → replies_from L s asks ≡ each (next L (sound L)) (λ q a. reply L (sound L) q a.request) s asks
   unfolding replies_from each
   replies-each s [] = refl
-  replies-each s (a ∷ asks) = ap (λ (l : List Reply). reply L (sound L) s a.request ∷ l) (replies-each _ asks)
+  replies-each s (a ∷ asks) = ap (λ (l : List Reply). reply L (sound L) s a.request ∷ l) (replies-each (next L (sound L) s a) asks)
 
   abbrev event_of : State → Ask → Event
   event_of s a = record { request = a.request; accepted = accepts L (sound L) s a }
@@ -110,7 +110,7 @@ module _ (L : Limits) where
   events-each : (s : State) (asks : List Ask) → events_from L (sound L) s asks ≡ each (next L (sound L)) event_of s asks
   unfolding events_from each
   events-each s [] = refl
-  events-each s (a ∷ asks) = ap (λ (l : List Event). event_of s a ∷ l) (events-each _ asks)
+  events-each s (a ∷ asks) = ap (λ (l : List Event). event_of s a ∷ l) (events-each (next L (sound L) s a) asks)
 
   pub strikes : Strikes L
   strikes = record {

@@ -1,6 +1,8 @@
 // The types that every crate of the ledger shares. What they mean is in specs/, on plain lists: the refusal table, the
 // step, the history, and demand 3 with its proof. The code, at the end, says which steps a record can say; `rows` has the
 // rows that several kinds share.
+#![tactic(auto)]
+
 mod rows;
 
 ghost use Rattle.std.specs.Prelude.{◌≡◌, [], ◌∷◌};
@@ -28,14 +30,14 @@ pub const MANIFESTS: usize = HOLDS + 1;
 pub const LARGEST_CURRENCY: u16 = 999;
 
 // Who writes: the writer of sheets and batches, or the compactor that merges them.
-#[derive(Drop)]
+#[derive(Clone, Copy)]
 pub enum Role {
     Writer,
     Compactor,
 }
 
 // What a step asks. COMMIT's list stands beside it, in the step.
-#[derive(Drop)]
+#[derive(Clone, Copy)]
 pub enum Kind {
     Fence {
         role: Role,
@@ -79,14 +81,14 @@ pub enum Kind {
 }
 
 // The object numbers that a manifest names: the first `count` places; the others are 0.
-#[derive(Drop)]
+#[derive(Clone, Copy)]
 pub struct NameList {
     pub count: usize,
     pub names: [u64; NAMES],
 }
 
 // A step is its time and one of ten kinds.
-#[derive(Drop)]
+#[derive(Clone, Copy)]
 pub struct Step {
     pub time: u64,
     pub kind: Kind,
@@ -94,7 +96,7 @@ pub struct Step {
 }
 
 // What a step is answered. Listed and Collected have a list beside them.
-#[derive(Drop)]
+#[derive(Clone, Copy)]
 pub enum Answer {
     // turned away, with the number of the refusal table
     Refused(u8),
@@ -111,20 +113,20 @@ pub enum Answer {
 }
 
 // Object numbers beside an answer: the first `count` places; the others are 0.
-#[derive(Drop)]
+#[derive(Clone, Copy)]
 pub struct ObjectList {
     pub count: usize,
     pub objects: [u64; PLACES],
 }
 
-#[derive(Drop)]
+#[derive(Clone, Copy)]
 pub struct Verdict {
     pub answer: Answer,
     pub list: ObjectList,
 }
 
 // A stored object. A free place is the one whose fields are all zero.
-#[derive(Drop)]
+#[derive(Clone, Copy)]
 pub struct Object {
     pub number: u64,
     pub role: Role,
@@ -136,7 +138,7 @@ pub struct Object {
 }
 
 // A hold keeps a manifest until it expires (a snapshot in source document 000). Expiry 0 is never.
-#[derive(Drop)]
+#[derive(Clone, Copy)]
 pub struct Hold {
     pub number: u64,
     pub manifest: u64,

@@ -1,4 +1,6 @@
 // Rate sheets (document 02, request 2): a record like the others, read and written, each undoing the other.
+#![tactic(auto)]
+
 ghost use Rattle.std.specs.Prelude.{◌≡◌};
 ghost use Rattle.records.specs.Format.{in_places};
 ghost use Rattle.sheets.specs.Sheets.{numerator as numeratorField, denominator as denominatorField, sheet_fields, is_rate, sheet_formed, sheet_from, formed, decode_sheet, sheet_writing};
@@ -14,7 +16,7 @@ pub const SHEET: usize = 41;
 pub const LARGEST_RATE: u64 = 1000000000;
 
 // The rate of a currency, kept in the object of that number: `numerator` units of the currency are `denominator` home units.
-#[derive(Drop)]
+#[derive(Clone, Copy)]
 pub struct Sheet {
     pub object: u64,
     pub currency: u16,
@@ -23,7 +25,7 @@ pub struct Sheet {
 }
 
 // What the reader answers. Malformed is the paper's number 2.
-#[derive(Drop)]
+#[derive(Clone, Copy)]
 pub enum SheetRead {
     Read(Sheet),
     Malformed,

@@ -1,6 +1,8 @@
 // Store names (document 01, "Records and names"; document 02, request 5): a manifest's name is the folder `manifest/`, 20
 // zero-padded decimal digits and `.manifest`, an object's `wal/`, 20 digits and `.sst`. One reader and one writer, each
 // undoing the other.
+#![tactic(auto)]
+
 ghost use Rattle.std.specs.Prelude.{◌≡◌, ◌++◌, length};
 ghost use Rattle.store_names.specs.Decimal.{decimal, digits};
 ghost use Rattle.store_names.specs.Names.{name_digits, same_bytes, number_before, number_in, decode, put_first, writing};
@@ -21,21 +23,21 @@ const MANIFEST_SUFFIX: [u8; 9] = *b".manifest";
 const OBJECT_SUFFIX: [u8; 4] = *b".sst";
 
 // A name as a value: of a manifest or of an object, with its number.
-#[derive(Drop)]
+#[derive(Clone, Copy)]
 pub enum Name {
     Manifest(u64),
     Object(u64),
 }
 
 // What the reader answers. Malformed is the paper's number 2.
-#[derive(Drop)]
+#[derive(Clone, Copy)]
 pub enum NameRead {
     Name(Name),
     Malformed,
 }
 
 // What the writer answers: the count of bytes, the paper's number 2 for what no reader takes, or that the room is short.
-#[derive(Drop)]
+#[derive(Clone, Copy)]
 pub enum NameWrite {
     Written(usize),
     Malformed,
@@ -43,7 +45,7 @@ pub enum NameWrite {
 }
 
 // A number in decimal digits, or bytes that say none.
-#[derive(Drop)]
+#[derive(Clone, Copy)]
 pub enum Decimal {
     Number(u64),
     Bad,

@@ -1,4 +1,6 @@
 // Verdict records (document 01, "A verdict is tag 40 .."): read and written, each undoing the other.
+#![tactic(auto)]
+
 ghost use Rattle.std.specs.Prelude.{◌≡◌, ◌||◌, ◌+◌, ◌*◌, ◌≤◌, eqb, length};
 ghost use Rattle.records.specs.Format.{in_places};
 ghost use Rattle.records.specs.Found.{found_by};
@@ -16,7 +18,7 @@ use rules::{Answer, ObjectList, Verdict};
 pub const LONGEST_VERDICT: usize = 3 * 3 + 1 + 8 * rules::PLACES;
 
 // The verdict beside Malformed is Done.
-#[derive(Drop)]
+#[derive(Clone, Copy)]
 pub struct VerdictRead {
     pub reading: Reading,
     pub verdict: Verdict,

@@ -1,0 +1,29 @@
+-- `Holds::all_live` meets its contract.
+-- Assumes nothing.
+use mathlib.Core.Path.{◌≡◌, refl, sym, ◌∙◌}
+use mathlib.Core.Bool.{Bool, false}
+use mathlib.Core.List.{List}
+use Prim.Native.Nat.{ℕ, ◌-◌, ◌≤◌}
+use native.Mathlib.Omega.{arith}
+use borrow.Author.Tests.{not-true, not-false}
+use lib.ListN.{length, take}
+use lib.Seq.{slice}
+use Rattle.rules.specs.declared.Hold.{Hold}
+use Rattle.rules.specs.Limits.{limits}
+use Rattle.rules.specs.Lists.{all}
+use Rattle.rules.specs.Words.{live}
+use Rattle.arrays.proofs.Scan.{scan_next, scan_stop, scan_end, all_hit, all-miss}
+use Rattle.holds.specs.Holds.{no_hold}
+use Rattle.holds.proofs.Places.{items_long}
+use Rattle.holds.proofs.Holds.all_live.Given as goal
+
+-- what is asked of the holds
+abbrev pub asked : ℕ → List Hold → Bool
+asked time = all (live time)
+
+abbrev pub invariant-loop-i : goal.invariant-loop-i
+invariant-loop-i l =
+    (l.i ≤ l.count) × (l.count ≤ limits.holds) × (l.count ≡ l.self.count) × (length l.self.items ≡ 8) × (asked l.time (slice l.i l.count l.self.items) ≡ asked l.time (take l.count l.self.items))
+
+abbrev pub decreases-loop-i : goal.decreases-loop-i
+decreases-loop-i l = l.count - l.i

@@ -1,0 +1,29 @@
+-- `Holds::has_number` meets its contract.
+-- Assumes nothing.
+use mathlib.Core.Path.{◌≡◌, refl, sym}
+use mathlib.Core.Bool.{Bool, true}
+use mathlib.Core.List.{List}
+use Prim.Native.Nat.{ℕ, ◌-◌, ◌≤◌}
+use native.Mathlib.Omega.{arith}
+use borrow.Author.Tests.{eq-eqb, ne_eqb}
+use lib.Dec.{eqb}
+use lib.ListN.{length, take}
+use lib.Seq.{slice}
+use Rattle.rules.specs.declared.Hold.{Hold}
+use Rattle.rules.specs.Limits.{limits}
+use Rattle.rules.specs.Lists.{any}
+use Rattle.arrays.proofs.Scan.{scan_next, scan_stop, scan_end, any_hit, any-miss}
+use Rattle.holds.specs.Holds.{no_hold}
+use Rattle.holds.proofs.Places.{items_long}
+use Rattle.holds.proofs.Holds.has_number.Given as goal
+
+-- what is asked of the holds
+abbrev pub asked : ℕ → List Hold → Bool
+asked number = any (λ (x : Hold). eqb number x.number)
+
+abbrev pub invariant-loop-i : goal.invariant-loop-i
+invariant-loop-i l =
+    (l.i ≤ l.count) × (l.count ≤ limits.holds) × (l.count ≡ l.self.count) × (length l.self.items ≡ 8) × (asked l.number (slice l.i l.count l.self.items) ≡ asked l.number (take l.count l.self.items))
+
+abbrev pub decreases-loop-i : goal.decreases-loop-i
+decreases-loop-i l = l.count - l.i

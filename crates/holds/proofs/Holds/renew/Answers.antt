@@ -1,0 +1,15 @@
+use mathlib.Core.Path.{◌≡◌, refl, subst}
+use Prim.Native.Nat.{ℕ, ◌-◌, ◌≤◌}
+use native.Mathlib.Omega.{arith}
+use lib.ListN.{length}
+use Rattle.rules.specs.Limits.{limits}
+use Rattle.rules.specs.Step.{renewed}
+use Rattle.arrays.proofs.Lists.{Filled, filled_none, filled_next, filled-count}
+use Rattle.holds.specs.Holds.{no_hold}
+use Rattle.holds.proofs.Places.{items_long, none_items}
+use Rattle.holds.proofs.Holds.renew.Goals as goal
+
+pub loop-i-preserved : goal.loop-i-preserved
+loop-i-preserved c =
+    let h = c.loop-i.invariant in
+    (omega arith, h.1, h.2, h.3, rw c.with_expiry.ensures (filled_next _ _ _ _ h.4 no_hold (omega arith) (omega arith)))

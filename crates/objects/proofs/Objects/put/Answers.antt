@@ -1,0 +1,63 @@
+-- `Objects::put` meets its contract: the object stands in the lowest free place, and its bit is set.
+-- Assumes nothing.
+use mathlib.Core.Path.{◌≡◌, sym, ap, ap₂, ◌∙◌}
+use mathlib.Core.Bool.{Bool}
+use mathlib.Core.List.{List, map}
+use Prim.Native.Nat.{ℕ, ◌<◌}
+use native.Mathlib.Omega.{arith}
+use lib.ListN.{set, length-map}
+use Rattle.rules.specs.Limits.{limits, word_bits}
+use Rattle.rules.specs.State.{occupied}
+use Rattle.rules.specs.Step.{place}
+use Rattle.rules.proofs.Laws.{place-lowest}
+use Rattle.objects.specs.Occupancy.{lowest_free, with_flag}
+use Rattle.objects.specs.Objects.{words_at}
+use Rattle.objects.proofs.Words.{free-place}
+use Rattle.objects.proofs.Places.{items_long, laid-words, laid-count, laid-flags, set_words, used-length, lowest-place}
+use Rattle.objects.proofs.Objects.put.Goals.{After-lowest_free-at}
+use Rattle.objects.proofs.Objects.put.Goals as goal
+
+-- the place is the lowest that is free
+module _ (c : After-lowest_free-at) where
+  abbrev start : tie.Start
+  start = c.before.before.before
+
+  at_is : c.lowest_free-at.result ≡ lowest_free (map occupied start.args.self.items)
+  at_is =
+      let s = start.args.self in
+      c.lowest_free-at.ensures ∙ ap lowest_free (laid-flags s start.pre.0 (items_long s _ start.good.0))
+
+  at-below : c.lowest_free-at.result < limits.places
+  at-below =
+      let s = start.args.self in
+      let long = items_long s _ start.good.0 in
+      let many = length-map s.items occupied in
+      let some = used-length s.items in
+      omega (arith, at_is, free-place (map occupied s.items) (omega (arith, start.pre.2)))
+
+pub set_bit-requires : goal.set_bit-requires
+set_bit-requires c =
+    let l = c in
+    omega (arith, at-below (goal.at.set_bit-requires l).After-lowest_free-at, laid-count (start (goal.at.set_bit-requires l).After-lowest_free-at).args.self (start (goal.at.set_bit-requires l).After-lowest_free-at).requires.0)
+
+pub offset_bounds-self-at : goal.offset_bounds-self-at
+offset_bounds-self-at c = omega (arith, at-below (goal.at.offset_bounds-self-at c).After-lowest_free-at)
+
+pub bounds-self-at : goal.bounds-self-at
+bounds-self-at c = at-below (goal.at.bounds-self-at c).After-lowest_free-at
+
+pub returns : goal.returns
+returns c =
+    let l = c in
+    let s = (start (goal.at.returns l).After-lowest_free-at).args.self in
+    let o = (start (goal.at.returns l).After-lowest_free-at).args.object in
+    let p = (start (goal.at.returns l).After-lowest_free-at).requires in
+    let ps = s.items in
+    let at = l.lowest_free-at.result in
+    let long = items_long s _ (start (goal.at.returns l).After-lowest_free-at).well-formed.0 in
+    let placed : set ps at o ≡ place o ps = ap (λ (i : ℕ). set ps i o) (at_is (goal.at.returns l).After-lowest_free-at ∙ lowest-place ps) ∙ sym (place-lowest o ps) in
+    let bits : c.set_bit.new.words ≡ words_at (place o ps) =
+    c.set_bit.ensures
+    ∙ ap₂ (λ (b : Bool) (ws : List ℕ). with_flag word_bits b at ws) (sym p.1) (laid-words s p.0)
+    ∙ set_words ps long at (omega (arith, at-below (goal.at.returns l).After-lowest_free-at)) o ∙ ap words_at placed in
+    λ j. record { occupancy = bits j; items = placed j }

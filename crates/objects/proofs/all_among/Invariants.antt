@@ -1,0 +1,19 @@
+-- `all_among` meets its contract: where the last one was found says only where the next is looked for first.
+-- Assumes nothing.
+use mathlib.Core.Path.{◌≡◌, sym, ap, ◌∙◌}
+use mathlib.Core.Bool.{false}
+use Prim.Native.Nat.{◌-◌, ◌≤◌}
+use native.Mathlib.Omega.{arith}
+use borrow.Author.Tests.{lt-ltb, le-ltb}
+use lib.ListN.{length}
+use lib.Seq.{slice, take_all}
+use Rattle.rules.specs.Lists.{all}
+use Rattle.arrays.proofs.Scan.{scan_next, scan_stop, scan_end, all_hit, all-miss}
+use Rattle.objects.specs.Objects.{among}
+use Rattle.objects.proofs.all_among.Given as goal
+
+abbrev pub invariant-loop-i : goal.invariant-loop-i
+invariant-loop-i l = (l.i ≤ length l.list) × (l.at ≤ length l.numbers) × (all (among l.numbers) (slice l.i (length l.list) l.list) ≡ all (among l.numbers) l.list)
+
+abbrev pub decreases-loop-i : goal.decreases-loop-i
+decreases-loop-i l = length l.list - l.i

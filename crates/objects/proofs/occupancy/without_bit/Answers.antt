@@ -1,0 +1,8 @@
+-- `without_bit`, by the law of an occupancy word.
+-- Assumes nothing.
+use Rattle.rules.specs.Limits.{word_bits}
+use Rattle.objects.proofs.Words.{and_flags}
+use Rattle.objects.proofs.occupancy.without_bit.Goals as goal
+
+pub returns : goal.returns
+returns c = and_flags word_bits c.args.bits c.ranges.bits.fits c.args.at c.requires

@@ -1,0 +1,18 @@
+-- `records::writing::size_of` meets its contract: the size so far and that of the fields left are the size of all.
+-- Assumes nothing.
+use mathlib.Core.Path.{◌≡◌}
+use Prim.Native.Nat.{◌+◌, ◌-◌, ◌*◌, ◌≤◌}
+use native.Mathlib.Omega.{arith}
+use lib.ListN.{length, get_or, take, drop}
+use Rattle.rules.specs.Limits.{limits}
+use Rattle.records.specs.Format.{inner, bytes_of}
+use Rattle.records.specs.Found.{is_narrow}
+use Rattle.records.proofs.Places.{rest_cons, rest-none, all-at}
+use Rattle.records.proofs.Pieces.{bytes-none, length_cons, content-short}
+use Rattle.records.proofs.writing.size_of.Given as goal
+
+abbrev pub invariant-loop-i : goal.invariant-loop-i
+invariant-loop-i l = (l.i ≤ l.n) × (l.size ≤ (3 + 8 * limits.places) * l.i) × (l.size + length (bytes_of (drop l.i (take l.n l.fields.items)) l.list) ≡ length (bytes_of (take l.n l.fields.items) l.list))
+
+abbrev pub decreases-loop-i : goal.decreases-loop-i
+decreases-loop-i l = l.n - l.i

@@ -1,0 +1,15 @@
+-- `store_names::copy_bytes` meets its contract. The invariant: the first i bytes are the same in both.
+-- Assumes nothing.
+use mathlib.Core.Path.{◌≡◌, refl, sym, ◌∙◌}
+use Prim.Native.Nat.{◌-◌, ◌≤◌}
+use native.Mathlib.Numerals.{add-one}
+use native.Mathlib.Omega.{arith}
+use lib.ListN.{length, get_or, take, length-set}
+use lib.Seq.{take-suc, take-suc-set, take_all}
+use Rattle.store_names.proofs.copy_bytes.Given as goal
+
+abbrev pub invariant-loop-i : goal.invariant-loop-i
+invariant-loop-i l = (l.i ≤ length l.to) × (length l.to ≡ length l.initial.to) × (take l.i l.to ≡ take l.i l.from)
+
+abbrev pub decreases-loop-i : goal.decreases-loop-i
+decreases-loop-i l = length l.to - l.i

@@ -1,0 +1,25 @@
+use mathlib.Core.Path.{◌≡◌, refl}
+use mathlib.Core.List.{◌++◌, append_assoc, append-nil}
+use Prim.Native.Nat.{◌+◌, ◌-◌, ◌%◌, ◌≤◌}
+use native.Mathlib.Omega.{arith}
+use lib.ListN.{length, drop, length-set}
+use lib.Seq.{drop-length}
+use Rattle.store_names.specs.Decimal.{digits}
+use Rattle.store_names.proofs.Bytes.{drop-set}
+use Rattle.store_names.proofs.Digits.{digits_last}
+use Rattle.store_names.proofs.put_digits.Goals as goal
+
+pub loop-i-preserved : goal.loop-i-preserved
+loop-i-preserved c =
+    let l = c.loop-i in
+    let turn : l.i - 1 + 1 ≡ l.i = omega arith in (
+      simp length-set (omega arith),
+      simp length-set l.invariant.1,
+      rw (drop-set l.out (l.i - 1) (48 + l.rest % 10) (omega arith), turn) (rw (digits_last l.i l.rest (omega arith), append_assoc) at l.invariant.2),
+    )
+
+pub returns : goal.returns
+unfolding digits
+returns c =
+    let none : c.loop-i.i ≡ 0 = omega arith in
+    rw none at c.loop-i.invariant.2

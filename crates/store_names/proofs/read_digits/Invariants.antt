@@ -1,0 +1,18 @@
+-- `store_names::read_digits` meets its contract. The invariant: what the rest says behind n is what all says.
+-- Assumes nothing.
+use mathlib.Core.Path.{◌≡◌, refl, sym, ◌∙◌}
+use mathlib.Core.List.{List, ◌∷◌}
+use Prim.Native.Nat.{ℕ, ◌+◌, ◌-◌, ◌*◌, ◌≤◌}
+use native.Mathlib.Numerals.{add-one}
+use native.Mathlib.Omega.{arith}
+use lib.ListN.{length, get_or, drop, drop_of_length-le}
+use lib.Seq.{drop-cons}
+use Rattle.store_names.specs.Decimal.{largest, decimal, decimal_from}
+use Rattle.store_names.proofs.Digits.{digit, below-digits, above_digits, decimal_digit, decimal-other, decimal_large, decimal_end}
+use Rattle.store_names.proofs.read_digits.Given as goal
+
+abbrev pub invariant-loop-i : goal.invariant-loop-i
+invariant-loop-i l = (l.i ≤ length l.s) × (l.n ≤ largest) × (decimal_from l.n (drop l.i l.s) ≡ decimal l.s)
+
+abbrev pub decreases-loop-i : goal.decreases-loop-i
+decreases-loop-i l = length l.s - l.i
