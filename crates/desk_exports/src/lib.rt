@@ -29,8 +29,7 @@ fn narrow_currency(c: u64) -> u16
 // Sheets
 
 // Reads all the bytes as one rate sheet: its four numbers.
-#[unsafe(no_mangle)]
-pub extern "C" fn cuudhaqil_read_sheet(bytes: &[u8], numbers: &mut [u64]) -> u64
+pub fn cuudhaqil_read_sheet(bytes: &[u8], numbers: &mut [u64]) -> u64
     ensures { read_sheet bytes.now numbers.old ≡ record { answer = result; left = numbers.new } }
 {
     if numbers.len() < SHEET {
@@ -46,8 +45,7 @@ pub extern "C" fn cuudhaqil_read_sheet(bytes: &[u8], numbers: &mut [u64]) -> u64
 }
 
 // Writes the record of a rate sheet, said as the reader says it, at the start of `out`.
-#[unsafe(no_mangle)]
-pub extern "C" fn cuudhaqil_write_sheet(numbers: &[u64], out: &mut [u8]) -> u64
+pub fn cuudhaqil_write_sheet(numbers: &[u64], out: &mut [u8]) -> u64
     ensures { write_sheet numbers.now out.old ≡ record { answer = result; left = out.new } }
 {
     if numbers.len() < SHEET {
@@ -84,8 +82,7 @@ fn charge_in(s: Sale) -> u64
 }
 
 // A sale on any ledger: the next ledger in its place, the code and the charge.
-#[unsafe(no_mangle)]
-pub extern "C" fn cuudhaqil_sell(
+pub fn cuudhaqil_sell(
     ledger: &mut [u64],
     time: u64,
     sheet: &[u8],
@@ -154,8 +151,7 @@ fn put_filled(row: [Entry; ROW], count: usize, card: &mut [u64])
 }
 
 // Fills in the first `count` entries of a card on any ledger: the next ledger in its place.
-#[unsafe(no_mangle)]
-pub extern "C" fn cuudhaqil_fill_card(
+pub fn cuudhaqil_fill_card(
     ledger: &mut [u64],
     time: u64,
     hold: u64,

@@ -25,8 +25,7 @@ pub fn write_code(w: Write) -> u64
 }
 
 // The next record of a trace: 0 at its end, 1 if it is torn, else its length.
-#[unsafe(no_mangle)]
-pub extern "C" fn cuudhaqil_next_record(trace: &[u8]) -> u64
+pub fn cuudhaqil_next_record(trace: &[u8]) -> u64
     ensures { result ≡ next_code (next_of trace.now) }
 {
     match fields::next_record(trace) {
@@ -94,8 +93,7 @@ fn step_numbers(t: u64, kind: Kind, n: u64) -> [u64; STEP]
 }
 
 // Reads all the bytes as one step record: its numbers and its list's places.
-#[unsafe(no_mangle)]
-pub extern "C" fn cuudhaqil_read_step(bytes: &[u8], numbers: &mut [u64], list: &mut [u64]) -> u64
+pub fn cuudhaqil_read_step(bytes: &[u8], numbers: &mut [u64], list: &mut [u64]) -> u64
     ensures { read_step bytes.now numbers.old list.old ≡ record { answer = result; numbers = numbers.new; list = list.new } }
 {
     if numbers.len() < STEP {
@@ -210,8 +208,7 @@ pub(crate) fn kind_of(v: &[u64]) -> KindRead
 }
 
 // Writes the record of a step, said as the reader says it, at the start of `out`.
-#[unsafe(no_mangle)]
-pub extern "C" fn cuudhaqil_write_step(numbers: &[u64], list: &[u64], out: &mut [u8]) -> u64
+pub fn cuudhaqil_write_step(numbers: &[u64], list: &[u64], out: &mut [u8]) -> u64
     ensures { write_step numbers.now list.now out.old ≡ record { answer = result; left = out.new } }
 {
     if numbers.len() < STEP {
@@ -254,8 +251,7 @@ pub fn verdict_numbers(answer: Answer, n: u64) -> [u64; VERDICT]
 }
 
 // Reads all the bytes as one verdict record: its numbers and its list's places.
-#[unsafe(no_mangle)]
-pub extern "C" fn cuudhaqil_read_verdict(bytes: &[u8], numbers: &mut [u64], list: &mut [u64]) -> u64
+pub fn cuudhaqil_read_verdict(bytes: &[u8], numbers: &mut [u64], list: &mut [u64]) -> u64
     ensures { read_verdict bytes.now numbers.old list.old ≡ record { answer = result; numbers = numbers.new; list = list.new } }
 {
     if numbers.len() < VERDICT {
@@ -300,8 +296,7 @@ fn answer_of(case: u64, value: u64) -> AnswerRead
 }
 
 // Writes the record of a verdict, said as the reader says it, at the start of `out`.
-#[unsafe(no_mangle)]
-pub extern "C" fn cuudhaqil_write_verdict(numbers: &[u64], list: &[u64], out: &mut [u8]) -> u64
+pub fn cuudhaqil_write_verdict(numbers: &[u64], list: &[u64], out: &mut [u8]) -> u64
     ensures { write_verdict numbers.now list.now out.old ≡ record { answer = result; left = out.new } }
 {
     if numbers.len() < VERDICT {

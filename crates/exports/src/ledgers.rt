@@ -22,8 +22,7 @@ const CURRENT: usize = 3;
 const VERSION: u64 = 1007000;
 
 // The fresh ledger, as numbers.
-#[unsafe(no_mangle)]
-pub extern "C" fn cuudhaqil_fresh(numbers: &mut [u64]) -> u64
+pub fn cuudhaqil_fresh(numbers: &mut [u64]) -> u64
     ensures { fresh numbers.old ≡ record { answer = result; left = numbers.new } }
 {
     if numbers.len() < LEDGER {
@@ -35,8 +34,7 @@ pub extern "C" fn cuudhaqil_fresh(numbers: &mut [u64]) -> u64
 }
 
 // Whether the ledger is sound: 0, or row 1's number.
-#[unsafe(no_mangle)]
-pub extern "C" fn cuudhaqil_is_sound(ledger: &[u64]) -> u64
+pub fn cuudhaqil_is_sound(ledger: &[u64]) -> u64
     ensures { result ≡ soundness ledger.now }
 {
     if ledger.len() < LEDGER {
@@ -50,8 +48,7 @@ pub extern "C" fn cuudhaqil_is_sound(ledger: &[u64]) -> u64
 }
 
 // The current manifest's number and both epochs, of a sound ledger.
-#[unsafe(no_mangle)]
-pub extern "C" fn cuudhaqil_current(ledger: &[u64], numbers: &mut [u64]) -> u64
+pub fn cuudhaqil_current(ledger: &[u64], numbers: &mut [u64]) -> u64
     ensures { current ledger.now numbers.old ≡ record { answer = result; left = numbers.new } }
 {
     if ledger.len() < LEDGER {
@@ -72,8 +69,7 @@ pub extern "C" fn cuudhaqil_current(ledger: &[u64], numbers: &mut [u64]) -> u64
 }
 
 // The version of the calls.
-#[unsafe(no_mangle)]
-pub extern "C" fn cuudhaqil_version() -> u64
+pub fn cuudhaqil_version() -> u64
     ensures { result ≡ version }
 {
     VERSION
@@ -124,8 +120,7 @@ fn put_verdict(said: Verdict, verdict: &mut [u64], objects: &mut [u64])
 }
 
 // One step on any ledger: the next ledger in its place, the verdict's numbers and its list.
-#[unsafe(no_mangle)]
-pub extern "C" fn cuudhaqil_step(
+pub fn cuudhaqil_step(
     ledger: &mut [u64],
     numbers: &[u64],
     list: &[u64],

@@ -12,8 +12,7 @@ const MANIFEST: u64 = 0;
 const OBJECT: u64 = 1;
 
 // Reads all the bytes as one name: its kind, and its number in number[0].
-#[unsafe(no_mangle)]
-pub extern "C" fn cuudhaqil_read_name(name: &[u8], number: &mut [u64]) -> u64
+pub fn cuudhaqil_read_name(name: &[u8], number: &mut [u64]) -> u64
     ensures { read_name name.now number.old ≡ record { answer = result; left = number.new } }
 {
     if number.len() == 0 {
@@ -47,8 +46,7 @@ fn write_code(w: NameWrite) -> u64
 }
 
 // Writes the name of that kind and number at the start of `out`.
-#[unsafe(no_mangle)]
-pub extern "C" fn cuudhaqil_write_name(kind: u64, value: u64, out: &mut [u8]) -> u64
+pub fn cuudhaqil_write_name(kind: u64, value: u64, out: &mut [u8]) -> u64
     ensures { write_name kind value out.old ≡ record { answer = result; left = out.new } }
 {
     if kind == MANIFEST {

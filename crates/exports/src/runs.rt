@@ -22,8 +22,7 @@ fn ending_code(ending: Ending) -> u64
 }
 
 // The run over the trace on the fresh ledger.
-#[unsafe(no_mangle)]
-pub extern "C" fn cuudhaqil_run(trace: &[u8], out: &mut [u8], counts: &mut [u64]) -> u64
+pub fn cuudhaqil_run(trace: &[u8], out: &mut [u8], counts: &mut [u64]) -> u64
     ensures { run trace.now out.old counts.old ≡ record { answer = result; out = out.new; counts = counts.new } }
 {
     if counts.len() < COUNTS {
@@ -38,8 +37,7 @@ pub extern "C" fn cuudhaqil_run(trace: &[u8], out: &mut [u8], counts: &mut [u64]
 }
 
 // The run on the ledger that the numbers say, which then are the next ledger's.
-#[unsafe(no_mangle)]
-pub extern "C" fn cuudhaqil_run_on(
+pub fn cuudhaqil_run_on(
     ledger: &mut [u64],
     trace: &[u8],
     out: &mut [u8],

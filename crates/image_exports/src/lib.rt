@@ -31,8 +31,7 @@ fn read_code(reading: Reading) -> u64
 }
 
 // Writes the image of the ledger that the numbers say at the start of `out`.
-#[unsafe(no_mangle)]
-pub extern "C" fn cuudhaqil_write_image(ledger: &[u64], out: &mut [u8]) -> u64
+pub fn cuudhaqil_write_image(ledger: &[u64], out: &mut [u8]) -> u64
     ensures { write_image ledger.now out.old ≡ record { answer = result; left = out.new } }
 {
     if ledger.len() < LEDGER {
@@ -43,8 +42,7 @@ pub extern "C" fn cuudhaqil_write_image(ledger: &[u64], out: &mut [u8]) -> u64
 }
 
 // Reads all the bytes as one image: the ledger's numbers, or the fresh one's beside a refusal.
-#[unsafe(no_mangle)]
-pub extern "C" fn cuudhaqil_read_image(image: &[u8], ledger: &mut [u64]) -> u64
+pub fn cuudhaqil_read_image(image: &[u8], ledger: &mut [u64]) -> u64
     ensures { read_image image.now ledger.old ≡ record { answer = result; left = ledger.new } }
 {
     if ledger.len() < LEDGER {

@@ -29,8 +29,7 @@ fn or_zero(o: Optional) -> u64
 }
 
 // Reads all the bytes as a listing: its four numbers, and whether a line is bad.
-#[unsafe(no_mangle)]
-pub extern "C" fn cuudhaqil_read_listing(bytes: &[u8], numbers: &mut [u64]) -> u64
+pub fn cuudhaqil_read_listing(bytes: &[u8], numbers: &mut [u64]) -> u64
     ensures { read_listing bytes.now numbers.old ≡ record { answer = result; left = numbers.new } }
 {
     if numbers.len() < LISTING {

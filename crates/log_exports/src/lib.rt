@@ -21,8 +21,7 @@ fn found(image: &[u8], trace: &[u8], log: &[u8]) -> CheckedFrom
 }
 
 // Says whether the log agrees with the verdicts of the trace's records; the index of the first disagreement goes to `at`.
-#[unsafe(no_mangle)]
-pub extern "C" fn cuudhaqil_check_log(image: &[u8], trace: &[u8], log: &[u8], at: &mut [u64]) -> u64
+pub fn cuudhaqil_check_log(image: &[u8], trace: &[u8], log: &[u8], at: &mut [u64]) -> u64
     ensures { check_log image.now trace.now log.now at.old ≡ record { answer = result; left = at.new } }
 {
     if at.len() == 0 {
