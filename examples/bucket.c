@@ -1,7 +1,7 @@
 /* Writes the names of two manifests and three objects, a line each, and says what that listing says; then with the last
  * byte cut off, and with two lines exchanged.
  *
- *     rt staticlib exports && rt staticlib listing_exports
+ *     tools/archives exports listing_exports
  *     cc -O2 -Wall -Wextra -Werror -Iinclude examples/bucket.c -Ltarget/staticlib -lexports -llisting_exports -o bucket
  *     ./bucket                                               # prints examples/bucket.out */
 #include <inttypes.h>

@@ -1,6 +1,6 @@
 /* Runs a trace file on the fresh ledger and prints each verdict in words: depot_week TRACE
  *
- *     rt staticlib exports
+ *     tools/archives exports
  *     cc -O2 -Wall -Wextra -Werror -Iinclude examples/depot_week.c -Ltarget/staticlib -lexports -o depot_week
  *     ./depot_week examples/depot_week.trace                 # prints examples/depot_week.out */
 #include <inttypes.h>

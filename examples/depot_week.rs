@@ -1,6 +1,6 @@
 //! Runs a trace file on the fresh ledger and prints each verdict in words: depot_week TRACE
 //!
-//!     rt staticlib exports
+//!     tools/archives exports
 //!     rustc --edition 2021 -O examples/depot_week.rs -L target/staticlib -l static=exports
 //!     ./depot_week examples/depot_week.trace                # prints examples/depot_week.out
 

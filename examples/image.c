@@ -1,6 +1,6 @@
 /* A ledger is saved as an image, a row a line, and loaded: after more steps, damaged, and with a ledger that is not sound.
  *
- *     rt staticlib exports && rt staticlib image_exports
+ *     tools/archives exports image_exports
  *     cc -O2 -Wall -Wextra -Werror -Iinclude examples/image.c -Ltarget/staticlib -lexports -limage_exports -o image
  *     ./image                                                # prints examples/image.out */
 #include <inttypes.h>

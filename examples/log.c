@@ -1,7 +1,7 @@
 /* A log of verdicts is checked against a trace: as our own run writes it, damaged, cut, with a verdict too many, with a trace
  * that is torn, and from an image behind the first step.
  *
- *     rt staticlib exports && rt staticlib image_exports && rt staticlib log_exports
+ *     tools/archives exports image_exports log_exports
  *     cc -O2 -Wall -Wextra -Werror -Iinclude examples/log.c -Ltarget/staticlib -lexports -limage_exports -llog_exports -o log
  *     ./log                                                  # prints examples/log.out */
 #include <inttypes.h>

@@ -1,6 +1,6 @@
 /* A sale, start to end: a rate sheet is put and committed, the desk sells by it, and a route card is filled in.
  *
- *     rt staticlib exports && rt staticlib desk_exports
+ *     tools/archives exports desk_exports
  *     cc -O2 -Wall -Wextra -Werror -Iinclude examples/sale.c -Ltarget/staticlib -lexports -ldesk_exports -o sale
  *     ./sale                                                 # prints examples/sale.out */
 #include <inttypes.h>

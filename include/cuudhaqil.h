@@ -1,4 +1,4 @@
-/* The calls of target/staticlib/libexports.a (crates/exports). Each is proved to keep what its comment says, for every
+/* The calls of target/staticlib/libexports.a (crates/exports_c). Each is proved to keep what its comment says, for every
  * argument that keeps what is said here: a slice is a pointer to its first element and the number of its elements, at
  * a non-null aligned pointer even where there are none, and a slice that is written overlaps no other.
  *

@@ -1,4 +1,4 @@
-/* The sale desk: the calls of target/staticlib/libdesk_exports.a (crates/desk_exports), beside those of cuudhaqil.h
+/* The sale desk: the calls of target/staticlib/libdesk_exports.a (crates/desk_exports_c), beside those of cuudhaqil.h
  * and under the same terms. A ledger is its 1,924 numbers, as cuudhaqil_fresh and cuudhaqil_step of cuudhaqil.h give
  * them; others are not sound: 1. A currency above 65,535 is taken as 65,535, which no sheet has. */
 #ifndef CUUDHAQIL_DESK_H

@@ -1,4 +1,4 @@
-/* Images, which save a ledger and load it: the calls of target/staticlib/libimage_exports.a (crates/image_exports), beside
+/* Images, which save a ledger and load it: the calls of target/staticlib/libimage_exports.a (crates/image_exports_c), beside
  * those of cuudhaqil.h and under the same terms. A ledger is its 1,924 numbers, as cuudhaqil_fresh and cuudhaqil_step of
  * cuudhaqil.h give them. An image is bytes, the same on every machine: a sound ledger has exactly one, and it is kept for
  * as long as one likes. docs/FORMAT.md has its form. */

@@ -1,4 +1,4 @@
-/* The call of target/staticlib/liblisting_exports.a (crates/listing_exports): what a listing of the store's bucket says. It
+/* The call of target/staticlib/liblisting_exports.a (crates/listing_exports_c): what a listing of the store's bucket says. It
  * is proved to keep what its comment says, for every argument that keeps what include/cuudhaqil.h says of slices. */
 #ifndef CUUDHAQIL_LISTING_H
 #define CUUDHAQIL_LISTING_H

@@ -1,5 +1,5 @@
 /* Another maker's log, checked against our own verdicts: the call of target/staticlib/liblog_exports.a
- * (crates/log_exports), beside those of cuudhaqil.h and under the same terms. A trace is step records one behind the other,
+ * (crates/log_exports_c), beside those of cuudhaqil.h and under the same terms. A trace is step records one behind the other,
  * a log verdict records; a starting image is what cuudhaqil_write_image of cuudhaqil_image.h writes. docs/FORMAT.md has
  * their form. No room for a whole log is needed: one verdict at a time is made and compared. */
 #ifndef CUUDHAQIL_LOG_H
