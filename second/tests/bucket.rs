@@ -6,6 +6,7 @@ use std::collections::BTreeMap;
 use std::io::{self, Write};
 use std::path::Path;
 use std::process::{Command, Output, Stdio};
+use std::sync::Once;
 
 use second::listing::LONGEST_LISTING;
 use second::names::{write, Name};
@@ -110,9 +111,16 @@ fn listed(random: &mut Random, keys: &Keys) -> Option<Vec<u8>> {
     Some(done.stdout)
 }
 
-/// What the proved program prints for a listing.
+/// What the proved program prints for a listing. The script builds it: two
+/// tests must not build it at once.
 fn printed(listing: &[u8]) -> String {
-    let program = Path::new(env!("CARGO_MANIFEST_DIR")).join("../target/bin/list_bucket");
+    static BUILT: Once = Once::new();
+    let root = Path::new(env!("CARGO_MANIFEST_DIR")).join("..");
+    BUILT.call_once(|| {
+        let done = Command::new(root.join("list_bucket")).stdin(Stdio::null()).output();
+        assert!(done.expect("the script is there").status.success(), "list_bucket is not built");
+    });
+    let program = root.join("target/bin/list_bucket");
     let done = run(&mut Command::new(&program), listing)
         .unwrap_or_else(|error| panic!("{}: {error}", program.display()));
     assert!(done.status.success(), "{done:?}");
