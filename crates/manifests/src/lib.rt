@@ -1,4 +1,6 @@
 // The kept manifests of a ledger: one to nine, packed in rising number; the last is current.
+#![tactic(auto)]
+
 ghost use Rattle.std.specs.Prelude.{◌≡◌, true, [], ◌∷◌, ◌++◌, map, ◌≤◌, take, drop};
 ghost use Rattle.rules.specs.Limits.{limits, manifest_limit};
 ghost use Rattle.rules.specs.Lists.{keep, all};

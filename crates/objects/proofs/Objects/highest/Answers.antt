@@ -14,6 +14,7 @@ use Rattle.arrays.proofs.Scan.{scan_next, scan_end}
 use Rattle.objects.specs.Objects.{currency_among, of_currency_in}
 use Rattle.objects.proofs.Places.{currency_among_lem, pair_long}
 use Rattle.objects.proofs.Objects.highest.Invariants.{asked}
+use Rattle.objects.proofs.Objects.highest.Goals.{then-currency_among-currency+then-best-n, then-currency_among-currency+else-best-n, else-currency_among-currency}
 use Rattle.objects.proofs.Objects.highest.Goals as goal
 
 -- one number of the list
@@ -40,10 +41,11 @@ loop-i-preserved c =
     let hit : (new : ℕ) → eqb (currency_among ns cs n) s.currency ≡ true → max b n ≡ new → asked ns cs s.currency b (n ∷ rest) ≡ asked ns cs s.currency new rest =
     λ new e m. asked_hit ns cs s.currency b n rest e ∙ ap (λ (k : ℕ). asked ns cs s.currency k rest) m in
     let turn : asked ns cs s.currency b (n ∷ rest) ≡ asked ns cs s.currency c.if-currency_among-currency.best rest =
-    ⊎_elim (λ w. hit _ (eq-eqb _ _ (is ∙ w.0.taken)) (omega (arith, w.1.taken, w.2)))
-    (⊎_elim (λ w. hit _ (eq-eqb _ _ (is ∙ w.0.taken)) (omega (arith, w.1.left, w.2)))
-    (λ w. asked-miss ns cs s.currency b n rest (ne_eqb _ _ (λ e. w.0.left (sym is ∙ e))) ∙ ap (λ (k : ℕ). asked ns cs s.currency k rest) (sym w.1)))
-    c.if-currency_among-currency.branch in
+    elim c.if-currency_among-currency.branch [
+      then-currency_among-currency+then-best-n w ↦ hit _ (eq-eqb _ _ (is ∙ w.if-currency_among-currency.true)) (omega (arith, w.if-best-n.true, w.best-is))
+      | then-currency_among-currency+else-best-n w ↦ hit _ (eq-eqb _ _ (is ∙ w.if-currency_among-currency.true)) (omega (arith, w.if-best-n.false, w.best-is))
+      | else-currency_among-currency w ↦ asked-miss ns cs s.currency b n rest (ne_eqb _ _ (λ e. w.if-currency_among-currency.false (sym is ∙ e))) ∙ ap (λ (k : ℕ). asked ns cs s.currency k rest) (sym w.best-is)
+    ] in
     let h = a.loop-i.invariant in
     (omega arith, h.1, scan_next l (length l) (asked ns cs s.currency b) h.2 0 (omega arith) (omega arith) (asked ns cs s.currency c.if-currency_among-currency.best) turn)
 

@@ -11,7 +11,7 @@ use Rattle.rules.specs.Lists.{keep, distinct}
 use Rattle.rules.specs.Table.{nonzero}
 use Rattle.objects.specs.Objects.{numbers_at, numbers_in}
 use Rattle.objects.proofs.Places.{items_long, numbers-kept, distinct-not, Passed, passed_none, passed_above, passed_other}
-use Rattle.objects.proofs.Objects.is_distinct.Goals.{else-highest-number, then-highest-number}
+use Rattle.objects.proofs.Objects.is_distinct.Goals.{else-highest-number+else-is_among, then-highest-number}
 use Rattle.objects.proofs.Objects.is_distinct.Goals as goal
 
 -- what the places say of the numbers
@@ -34,7 +34,7 @@ loop-i-preserved c =
     let i = c.loop-i.i in (
       omega arith,
       h.1,
-      (elim c.if-highest-number.branch [ then-highest-number w ↦ subst⁻¹ (λ (top : ℕ). Passed ns (i + 1) top) w.highest-is (passed_above ns i c.loop-i.highest (omega arith) h.2 (omega (arith, w.if-highest-number.true))) | else-highest-number w ↦ subst⁻¹ (λ (top : ℕ). Passed ns (i + 1) top) w.4 (passed_other ns i c.loop-i.highest (omega arith) h.2 (omega (arith, w.if-highest-number.false)) (sym w.2.ensures ∙ w.3.left)) ]),
+      (elim c.if-highest-number.branch [ then-highest-number w ↦ subst⁻¹ (λ (top : ℕ). Passed ns (i + 1) top) w.highest-is (passed_above ns i c.loop-i.highest (omega arith) h.2 (omega (arith, w.if-highest-number.true))) | else-highest-number+else-is_among w ↦ subst⁻¹ (λ (top : ℕ). Passed ns (i + 1) top) w.highest-is (passed_other ns i c.loop-i.highest (omega arith) h.2 (omega (arith, w.if-highest-number.false)) (sym w.is_among.ensures ∙ w.if-is_among.false)) ]),
     )
 
 pub returns : goal.returns

@@ -50,27 +50,24 @@ lent-word ns ps e k =
 
 -- the word that was made beside the one that stands there
 module _ (c : After-word_of) where
-  abbrev at : tie.At-loop invariant-loop decreases-loop
-  at = c.before.before.before.before.before
-
   abbrev self : Objects
-  self = at.before.before.args.self
+  self = c.args.self
 
-  made : c.word_of.result ≡ word_at (map occupied self.items) at.loop.k
-  made = c.word_of.ensures ∙ lent-word at.before.numbers.result self.items at.loop.inv.3 at.loop.k
+  made : c.word_of.result ≡ word_at (map occupied self.items) c.loop-k.k
+  made = c.word_of.ensures ∙ lent-word c.numbers-numbers.result self.items c.loop-k.invariant.3 c.loop-k.k
 
-  next : (b : Bool) → eqb (get_or self.occupancy at.loop.k 0) c.word_of.result ≡ b
-      → (b && laid_from self.occupancy (map occupied self.items) (at.loop.k + 1)) ≡ same self.occupancy (words_at self.items)
+  next : (b : Bool) → eqb (get_or self.occupancy c.loop-k.k 0) c.word_of.result ≡ b
+      → (b && laid_from self.occupancy (map occupied self.items) (c.loop-k.k + 1)) ≡ same self.occupancy (words_at self.items)
   next b e =
-      ap (λ (t : Bool). t && laid_from self.occupancy (map occupied self.items) (at.loop.k + 1)) (sym e ∙ ap (eqb (get_or self.occupancy at.loop.k 0)) made)
-      ∙ sym (from_next self.occupancy (map occupied self.items) at.loop.k at.loop.inv.1 (omega arith)) ∙ at.loop.inv.4
+      ap (λ (t : Bool). t && laid_from self.occupancy (map occupied self.items) (c.loop-k.k + 1)) (sym e ∙ ap (eqb (get_or self.occupancy c.loop-k.k 0)) made)
+      ∙ sym (from_next self.occupancy (map occupied self.items) c.loop-k.k c.loop-k.invariant.1 (omega arith)) ∙ c.loop-k.invariant.4
 
 pub returns-then-self-k : goal.returns-then-self-k
 returns-then-self-k c = next (goal.at.returns-then-self-k c).After-word_of false (ne_eqb _ _ c.if-self-k.true)
 
 pub loop-k-preserved : goal.loop-k-preserved
 loop-k-preserved c =
-    let h = (at (goal.at.loop-k-preserved c).After-word_of).loop.invariant in
+    let h = c.loop-k.invariant in
     (omega arith, h.1, h.2, h.3, next (goal.at.loop-k-preserved c).After-word_of true (eq-eqb _ _ c.if-self-k.false))
 
 pub returns : goal.returns

@@ -18,46 +18,42 @@ use Rattle.objects.proofs.Objects.put.Goals.{After-lowest_free-at}
 use Rattle.objects.proofs.Objects.put.Goals as goal
 
 -- the place is the lowest that is free
-module _ (c : After-lowest_free-at) where
-  abbrev start : tie.Start
-  start = c.before.before.before
+at_is : (c : After-lowest_free-at) → c.lowest_free-at.result ≡ lowest_free (map occupied c.args.self.items)
+at_is c =
+    let s = c.args.self in
+    c.lowest_free-at.ensures ∙ ap lowest_free (laid-flags s c.requires.0 (items_long s _ c.well_formed.0))
 
-  at_is : c.lowest_free-at.result ≡ lowest_free (map occupied start.args.self.items)
-  at_is =
-      let s = start.args.self in
-      c.lowest_free-at.ensures ∙ ap lowest_free (laid-flags s start.pre.0 (items_long s _ start.good.0))
-
-  at-below : c.lowest_free-at.result < limits.places
-  at-below =
-      let s = start.args.self in
-      let long = items_long s _ start.good.0 in
-      let many = length-map s.items occupied in
-      let some = used-length s.items in
-      omega (arith, at_is, free-place (map occupied s.items) (omega (arith, start.pre.2)))
+at_below : (c : After-lowest_free-at) → c.lowest_free-at.result < limits.places
+at_below c =
+    let s = c.args.self in
+    let long = items_long s _ c.well_formed.0 in
+    let many = length-map s.items occupied in
+    let some = used-length s.items in
+    omega (arith, at_is c, free-place (map occupied s.items) (omega (arith, c.requires.2)))
 
 pub set_bit-requires : goal.set_bit-requires
 set_bit-requires c =
     let l = c in
-    omega (arith, at-below (goal.at.set_bit-requires l).After-lowest_free-at, laid-count (start (goal.at.set_bit-requires l).After-lowest_free-at).args.self (start (goal.at.set_bit-requires l).After-lowest_free-at).requires.0)
+    omega (arith, at_below (goal.at.set_bit-requires l).After-lowest_free-at, laid-count l.args.self l.requires.0)
 
 pub offset_bounds-self-at : goal.offset_bounds-self-at
-offset_bounds-self-at c = omega (arith, at-below (goal.at.offset_bounds-self-at c).After-lowest_free-at)
+offset_bounds-self-at c = omega (arith, at_below (goal.at.offset_bounds-self-at c).After-lowest_free-at)
 
 pub bounds-self-at : goal.bounds-self-at
-bounds-self-at c = at-below (goal.at.bounds-self-at c).After-lowest_free-at
+bounds-self-at c = at_below (goal.at.bounds-self-at c).After-lowest_free-at
 
 pub returns : goal.returns
 returns c =
     let l = c in
-    let s = (start (goal.at.returns l).After-lowest_free-at).args.self in
-    let o = (start (goal.at.returns l).After-lowest_free-at).args.object in
-    let p = (start (goal.at.returns l).After-lowest_free-at).requires in
+    let s = l.args.self in
+    let o = l.args.object in
+    let p = l.requires in
     let ps = s.items in
     let at = l.lowest_free-at.result in
-    let long = items_long s _ (start (goal.at.returns l).After-lowest_free-at).well-formed.0 in
+    let long = items_long s _ l.well_formed.0 in
     let placed : set ps at o ≡ place o ps = ap (λ (i : ℕ). set ps i o) (at_is (goal.at.returns l).After-lowest_free-at ∙ lowest-place ps) ∙ sym (place-lowest o ps) in
     let bits : c.set_bit.new.words ≡ words_at (place o ps) =
     c.set_bit.ensures
     ∙ ap₂ (λ (b : Bool) (ws : List ℕ). with_flag word_bits b at ws) (sym p.1) (laid-words s p.0)
-    ∙ set_words ps long at (omega (arith, at-below (goal.at.returns l).After-lowest_free-at)) o ∙ ap words_at placed in
+    ∙ set_words ps long at (omega (arith, at_below (goal.at.returns l).After-lowest_free-at)) o ∙ ap words_at placed in
     λ j. record { occupancy = bits j; items = placed j }

@@ -1,0 +1,16 @@
+-- `Manifests::counts` meets its contract: the first places have the counts of the places passed.
+-- Assumes nothing.
+use Prim.Native.Nat.{◌-◌}
+use native.Mathlib.Omega.{arith}
+use Rattle.rules.specs.Limits.{limits, manifest_limit}
+use Rattle.manifests.specs.declared.KeptManifest.{KeptManifest}
+use Rattle.arrays.proofs.Lists.{Copied, copied_none, copied_next, copied_all}
+use Rattle.manifests.specs.Manifests.{past_end}
+use Rattle.manifests.proofs.Places.{items_long}
+use Rattle.manifests.proofs.Manifests.counts.Given as goal
+
+abbrev pub invariant-loop-i : goal.invariant-loop-i
+invariant-loop-i l = Copied (manifest_limit limits) 0 (λ (m : KeptManifest). m.count) l.self.items l.i l.counts
+
+abbrev pub decreases-loop-i : goal.decreases-loop-i
+decreases-loop-i l = manifest_limit limits - l.i

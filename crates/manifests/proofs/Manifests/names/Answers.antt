@@ -1,0 +1,10 @@
+use Rattle.manifests.proofs.Manifests.names.Goals as goal
+
+pub loop-i-init : goal.loop-i-init
+loop-i-init c = ?
+
+pub loop-i-preserved : goal.loop-i-preserved
+loop-i-preserved c = ?
+
+pub returns : goal.returns
+returns c = ?

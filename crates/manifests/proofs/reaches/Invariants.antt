@@ -1,0 +1,29 @@
+-- `reaches` meets its contract: no list passed has the object, until one does; and each has its count.
+-- Assumes nothing.
+use mathlib.Core.Path.{◌≡◌, refl, sym, ap, ◌∙◌}
+use mathlib.Core.Bool.{false}
+use mathlib.Core.List.{List, [], map}
+use Prim.Native.Nat.{ℕ, ◌-◌, ◌≤◌}
+use native.Mathlib.Omega.{arith}
+use lib.ListN.{length, take, get_or, length-set, length-take}
+use lib.Seq.{slice, take_all}
+use Rattle.rules.specs.Limits.{limits, manifest_limit}
+use Rattle.rules.specs.Lists.{any}
+use Rattle.arrays.specs.Arrays.{pad}
+use Rattle.arrays.proofs.Lists.{any_passed, Filled, filled_none, filled_next}
+use Rattle.manifests.specs.Search.{Search, search}
+use Rattle.manifests.specs.Reach.{lists_in}
+use Rattle.manifests.proofs.Searching.{search-by_halves}
+use Rattle.manifests.proofs.Reaching.{Searched, searched_read, searched_over, searched_none, search_empty, here, up, down, finds, counted, filled_empty, reach-none, reach-found, lists_long, list_at_lem, list-few, array_whole}
+use Rattle.manifests.proofs.reaches.Given as goal
+
+abbrev pub invariant-loop-low : goal.invariant-loop-low
+invariant-loop-low l =
+    (l.low ≤ l.high) × (l.high ≤ get_or l.counts l.i 0) × (get_or l.counts l.i 0 ≤ limits.names) × (length (get_or l.names l.i []) ≡ limits.names) × (l.found ≡ false) × (length l.reads ≡ manifest_limit limits)
+    × Searched (search l.object (get_or (lists_in l.names l.counts) l.i [])) (search l.object (slice l.low l.high (get_or l.names l.i []))) l.i l.initial.reads l.reads
+
+abbrev pub decreases-loop-low : goal.decreases-loop-low
+decreases-loop-low l = l.high - l.low
+
+abbrev pub decreases-all : goal.decreases-all
+decreases-all l = length l.counts - l.i

@@ -1,0 +1,4 @@
+use Rattle.manifests.proofs.zero.Goals as goal
+
+pub returns : goal.returns
+returns c = ?
