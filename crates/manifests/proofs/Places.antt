@@ -65,12 +65,12 @@ abbrev pub has_room : KeptManifest → Bool
 has_room m = eqb (length m.names) limits.names
 
 field_room : (ms : List KeptManifest) (us : List Val)
-    → shadow (each (kept.the_field).row.Denot (kept.the_field).row.own_val (map (kept.the_field).into ms) us) → all has_room ms ≡ true
+    → shadow (each (kept.the_field).row.Denot (kept.the_field).row.own_val ms us) → all has_room ms ≡ true
 unfolding all
 field_room [] us is = refl
 field_room (m ∷ ms) [] is = absurd is
 field_room (m ∷ ms) (u ∷ us) is =
-    and_both (has_room m) _ (eq-eqb _ _ (sym (length-map m.names (λ (v : ℕ). v)) ∙ is.0.1.1.1.1.1.1.0.1.0.1)) (field_room ms us is.1)
+    and_both (has_room m) _ (eq-eqb _ _ is.0.1.1.1.1.1.1.0.1.0.1) (field_room ms us is.1)
 
 -- the lengths of a value's arrays
 pub record Long (ms : Manifests) : Type 0 where
@@ -79,7 +79,7 @@ pub record Long (ms : Manifests) : Type 0 where
 
 pub long : (ms : Manifests) (vs : List Val) → Is manifests.the_row ms vs → Long ms
 long ms vs is = record {
-  items = sym (length-map ms.items (kept.the_field).into) ∙ is.1.1.1.0.1.0.1;
+  items = is.1.1.1.0.1.0.1;
   names = field_room ms.items _ is.1.1.1.0.1.1;
 }
 

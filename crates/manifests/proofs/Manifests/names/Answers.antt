@@ -1,10 +1,18 @@
+use Prim.Native.Nat.{◌-◌}
+use native.Mathlib.Omega.{arith}
+use lib.ListN.{replicate}
+use Rattle.rules.specs.Limits.{limits, manifest_limit}
+use Rattle.manifests.specs.declared.KeptManifest.{KeptManifest}
+use Rattle.arrays.proofs.Lists.{Copied, copied_none, copied_next, copied_all}
+use Rattle.manifests.specs.Manifests.{past_end}
+use Rattle.manifests.proofs.Places.{items_long}
 use Rattle.manifests.proofs.Manifests.names.Goals as goal
 
 pub loop-i-init : goal.loop-i-init
-loop-i-init c = ?
+loop-i-init c = copied_none _ (replicate limits.names 0) (λ (m : KeptManifest). m.names) c.args.self.items (items_long c.args.self _ c.well_formed.0)
 
 pub loop-i-preserved : goal.loop-i-preserved
-loop-i-preserved c = ?
+loop-i-preserved c = copied_next _ _ _ _ c.loop-i.invariant past_end (omega arith)
 
 pub returns : goal.returns
-returns c = ?
+returns c = copied_all _ _ _ _ c.loop-i.invariant (omega arith)
