@@ -65,7 +65,7 @@ abbrev pub has_room : KeptManifest → Bool
 has_room m = eqb (length m.names) limits.names
 
 field_room : (ms : List KeptManifest) (us : List Val)
-    → shadow (each (kept.the_field).row.Denot (kept.the_field).row.own_val ms us) → all has_room ms ≡ true
+    → shadow (each (kept.the_row).Denot (kept.the_row).own_val ms us) → all has_room ms ≡ true
 unfolding all
 field_room [] us is = refl
 field_room (m ∷ ms) [] is = absurd is

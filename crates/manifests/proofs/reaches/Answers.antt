@@ -15,11 +15,20 @@ use Rattle.manifests.proofs.Searching.{search-by_halves}
 use Rattle.manifests.proofs.Reaching.{Searched, searched_read, searched_over, searched_none, search_empty, here, up, down, finds, counted, filled_empty, reach-none, reach-found, lists_long, list_at_lem, list-few, array_whole}
 use Rattle.manifests.proofs.reaches.Goals as goal
 
-abbrev invariant-all : tie.invariant-all
-invariant-all names counts object found₀ reads₀ i₀ found reads i =
-    (i ≤ length counts) × (length counts ≤ length names) × (length counts ≤ manifest_limit limits) × (length (lists_in names counts) ≡ length counts)
-    × (found ≡ false) × (length reads ≡ manifest_limit limits)
-    × (any (finds object) (take i (lists_in names counts)) ≡ false) × Filled (manifest_limit limits) 0 (counted object) (lists_in names counts) i reads
+pub all-init : goal.all-init
+unfolding any
+all-init c =
+    let names = c.args.names.now in
+    let counts = c.args.counts.now in (
+      omega arith,
+      c.requires.arrays,
+      c.requires.places,
+      lists_long names counts c.requires.arrays,
+      refl,
+      refl,
+      refl,
+      filled_none (manifest_limit limits) 0 (counted c.args.object) (lists_in names counts),
+    )
 
 pub loop-low-init : goal.loop-low-init
 loop-low-init c =
@@ -72,6 +81,25 @@ loop-low-preserved c =
     let read =
     down s.object array {low = a.loop-low.low} {high = a.loop-low.high} (omega arith) (omega arith) c.if-name-object.false (omega (arith, c.if-name-object-2.false)) in
     (omega arith, omega arith, h.2, h.3, h.4, length-set a.loop-low.reads o.all.i _ ∙ h.5, searched_read h.6 (omega arith) read)
+
+pub all-preserved : goal.all-preserved
+all-preserved c =
+    let o = c in
+    let s = o.args in
+    let h = c.loop-low.invariant in
+    let g = o.all.invariant in
+    let lists = lists_in s.names.now s.counts.now in
+    let array = get_or s.names.now o.all.i [] in
+    let end = searched_over h.6 (search_empty s.object array c.loop-low.low c.loop-low.high (omega arith)) in (
+      omega arith,
+      g.1,
+      g.2,
+      g.3,
+      h.4,
+      h.5,
+      any_passed (finds s.object) lists o.all.i [] (omega arith) g.6 end.0,
+      end.1 ∙ filled_next (manifest_limit limits) 0 (counted s.object) lists g.7 [] (omega arith) (omega arith),
+    )
 
 pub returns-after-all : goal.returns-after-all
 returns-after-all c =

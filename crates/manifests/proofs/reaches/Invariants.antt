@@ -25,5 +25,11 @@ invariant-loop-low l =
 abbrev pub decreases-loop-low : goal.decreases-loop-low
 decreases-loop-low l = l.high - l.low
 
+abbrev pub invariant-all : goal.invariant-all
+invariant-all l =
+    (l.i ≤ length l.counts) × (length l.counts ≤ length l.names) × (length l.counts ≤ manifest_limit limits) × (length (lists_in l.names l.counts) ≡ length l.counts)
+    × (l.found ≡ false) × (length l.reads ≡ manifest_limit limits)
+    × (any (finds l.object) (take l.i (lists_in l.names l.counts)) ≡ false) × Filled (manifest_limit limits) 0 (counted l.object) (lists_in l.names l.counts) l.i l.reads
+
 abbrev pub decreases-all : goal.decreases-all
 decreases-all l = length l.counts - l.i

@@ -16,9 +16,9 @@ use Rattle.arrays.proofs.Scan.{scan_next, scan_stop, scan_end}
 use Rattle.manifests.specs.declared.KeptManifest.{KeptManifest}
 use Rattle.manifests.specs.Manifests.{manifest_of, past_end, epochs_follow}
 use Rattle.manifests.proofs.Places.{long, few}
-use Rattle.manifests.proofs.Manifests.is_ordered.Invariants.{asked, least}
+use Rattle.manifests.proofs.Manifests.is_ordered.Invariants.{least, asked}
 use Rattle.manifests.proofs.Manifests.is_ordered.Goals.{Joined-i-gt0}
-use Rattle.manifests.proofs.Manifests.is_ordered.Goals.{else-i-gt0, then-i-gt0}
+use Rattle.manifests.proofs.Manifests.is_ordered.Goals.{else-i-gt0, then-i-gt0+else-m-last}
 use Rattle.manifests.proofs.Manifests.is_ordered.Goals as goal
 
 -- One turn
@@ -73,7 +73,7 @@ high : (c : Joined-i-gt0)
     → (let a = c in least a.loop-i.i a.loop-i.last ≤ (get_or a.args.self.items a.loop-i.i past_end).number)
 high c =
     let a = c in
-    at_least a.loop-i.i a.loop-i.last (get_or a.args.self.items a.loop-i.i past_end).number (λ h. (elim c.if-i-gt0.branch [ then-i-gt0 w ↦ omega arith | else-i-gt0 w ↦ omega arith ]))
+    at_least a.loop-i.i a.loop-i.last (get_or a.args.self.items a.loop-i.i past_end).number (λ h. (elim c.if-i-gt0.branch [ then-i-gt0+else-m-last w ↦ omega arith | else-i-gt0 w ↦ omega arith ]))
 
 pub returns-then-not-follows : goal.returns-then-not-follows
 returns-then-not-follows c =
