@@ -1,4 +1,6 @@
 // The ledger: it goes in and the next ledger comes back; nothing is kept elsewhere (document 01, "What the ledger holds").
+#![tactic(auto)]
+
 mod change;
 mod collect;
 mod sound;

@@ -1,0 +1,124 @@
+-- `Ledger::compact_row` meets its contract: rows 4 to 8 and 17 in their order.
+-- Assumes nothing.
+use mathlib.Core.Path.{◌≡◌, sym, ap, ap₂, ◌∙◌}
+use mathlib.Core.Bool.{cond, true, false}
+use mathlib.Core.List.{[], ◌∷◌}
+use Prim.Native.Nat.{ℕ, ◌≤◌}
+use borrow.Author.Tests.{eq-eqb, ne_eqb, not-true, not-false}
+use lib.Dec.{eqb}
+use lib.ListN.{length, take}
+use lib.Seq.{length-take-le}
+use Rattle.rules.specs.Lists.{maximum}
+use Rattle.rules.specs.Table.{row8, row17, fence_row, slot_row}
+use Rattle.rules.specs.Typed.{is_padded}
+use Rattle.rules.specs.Words.{stored}
+use Rattle.rules.proofs.Typed.{padded-room}
+use Rattle.objects.specs.Objects.{of_currency_in}
+use Rattle.manifests.specs.declared.KeptManifest.{KeptManifest}
+use Rattle.ledger.specs.Ledger.{view}
+use Rattle.ledger.proofs.View.{sized, sound_parts}
+use Rattle.ledger.proofs.Live.{compact_rows}
+use Rattle.ledger.proofs.StoreSteps.{fenced_rows, fence-stop, slot-stop, slot_pass, one-stored, highest-row, current-padded}
+use Rattle.ledger.proofs.Ledger.compact_row.Goals.{After-current-current, After-fence_row-fence, After-highest, After-is_stored, After-slot_row-row, Else-not-is_stored, Else-row-ne0}
+use Rattle.ledger.proofs.Ledger.compact_row.Goals as goal
+
+pub current-current-requires : goal.current-current-requires
+current-current-requires c = (sound_parts _ c.requires).manifests
+
+-- rows 4 and 5
+fenced : (c : After-fence_row-fence) → let s = c.args in c.fence_row-fence.result ≡ fence_row (view s.self).current.compactor_epoch s.epoch
+fenced c =
+    let s = c.args in
+    c.fence_row-fence.ensures ∙ ap (λ (m : KeptManifest). fence_row m.compactor s.epoch) c.current-current.ensures
+
+pub returns-then-fence-ne0 : goal.returns-then-fence-ne0
+returns-then-fence-ne0 c t =
+    let s = c.args in
+    let l = view s.self in
+    fence-stop l l.current.compactor_epoch s.epoch s.slot _ (fenced (goal.at.returns-then-fence-ne0 c).After-fence_row-fence) c.if-fence-ne0.true ∙ sym (compact_rows l t s.epoch s.slot s.object)
+
+-- rows 6 and 7
+slotted : (c : After-slot_row-row) → let s = c.args in c.slot_row-row.result ≡ slot_row (view s.self).current.number s.slot
+slotted c =
+    let b = c in
+    let s = b.args in
+    c.slot_row-row.ensures ∙ ap (λ (m : KeptManifest). slot_row m.number s.slot) b.current-current.ensures
+
+pub returns-then-row-ne0 : goal.returns-then-row-ne0
+returns-then-row-ne0 c t =
+    let b = c in
+    let s = b.args in
+    let l = view s.self in
+    slot-stop l l.current.compactor_epoch s.epoch s.slot _ (fenced (goal.at.returns-then-row-ne0 b).After-fence_row-fence) b.if-fence-ne0.false (slotted (goal.at.returns-then-row-ne0 c).After-slot_row-row) c.if-row-ne0.true
+    ∙ sym (compact_rows l t s.epoch s.slot s.object)
+
+-- past rows 4 to 7
+past : (c : Else-row-ne0) (rest : ℕ) → let s = c.args in
+    let l = view s.self in
+    fenced_rows l l.current.compactor_epoch s.epoch s.slot rest ≡ rest
+past c rest =
+    let b = c in
+    let s = b.args in
+    let l = view s.self in
+    slot_pass l l.current.compactor_epoch s.epoch s.slot rest (fenced (goal.at.Else-row-ne0 b).After-fence_row-fence) b.if-fence-ne0.false (slotted (goal.at.Else-row-ne0 c).After-slot_row-row) c.if-row-ne0.false
+
+-- whether the object is stored
+there : (c : After-is_stored) → let s = c.args in stored (view s.self) s.object ≡ c.is_stored.result
+unfolding stored
+there c = sym c.is_stored.ensures
+
+pub returns-then-not-is_stored : goal.returns-then-not-is_stored
+returns-then-not-is_stored c t =
+    let b = c in
+    let s = b.args in
+    sym (compact_rows (view s.self) t s.epoch s.slot s.object ∙ past (goal.at.returns-then-not-is_stored b).Else-row-ne0 _
+    ∙ (rw (one-stored (view s.self) s.object false (there (goal.at.returns-then-not-is_stored c).After-is_stored ∙ c.if-not-is_stored.true))))
+
+-- the names are no more than their places
+room : (c : After-current-current) → c.current-current.result.count ≤ length c.current-current.result.names
+room c =
+    let st = c in
+    let l = st.args.self in
+    padded-room _ _ (ap (λ (m : KeptManifest). is_padded m.count m.names) c.current-current.ensures ∙ current-padded l st.requires (sized l _ st.well_formed.0))
+
+pub slice_bounds-names-end : goal.slice_bounds-names-end
+slice_bounds-names-end c = room (goal.at.slice_bounds-names-end c).After-current-current
+
+pub slice_bounds-highest-end : goal.slice_bounds-highest-end
+slice_bounds-highest-end c =
+    let a = c in
+    sym (length-take-le a.current-current.result.count a.current-current.result.names (room (goal.at.slice_bounds-highest-end a).After-current-current))
+
+-- row 17 applies where nothing was found
+last : (c : After-highest) → let s = c.args in
+    row17 (view s.self) s.object ≡ eqb c.highest.result 0
+last c =
+    let d = c in
+    let a = c in
+    let st = c in
+    let l = st.args.self in
+    highest-row l st.requires st.args.object
+    ∙ ap (λ (n : ℕ). eqb n 0) (sym (c.highest.ensures
+    ∙ ap₂ (λ (k : ℕ) (m : KeptManifest). maximum (of_currency_in l.objects.items k (take m.count m.names))) d.currency_of-currency.ensures a.current-current.ensures))
+
+-- past rows 4 to 8
+stands : (c : Else-not-is_stored) (rest : ℕ) → let b = c in
+    let s = b.args in
+    let l = view s.self in
+    fenced_rows l l.current.compactor_epoch s.epoch s.slot (cond (row8 l (s.object ∷ [])) 8 rest) ≡ rest
+stands c rest =
+    let b = c in
+    let s = b.args in
+    past (goal.at.Else-not-is_stored b).Else-row-ne0 _ ∙ (rw (one-stored (view s.self) s.object true (there (goal.at.Else-not-is_stored c).After-is_stored ∙ c.if-not-is_stored.false)))
+
+pub returns-then-highest-eq0 : goal.returns-then-highest-eq0
+returns-then-highest-eq0 c t =
+    let e = c in
+    let s = e.args in
+    sym (compact_rows (view s.self) t s.epoch s.slot s.object ∙ stands (goal.at.returns-then-highest-eq0 e).Else-not-is_stored _ ∙ (rw (last (goal.at.returns-then-highest-eq0 c).After-highest ∙ eq-eqb _ _ c.if-highest-eq0.true)))
+
+pub returns : goal.returns
+returns c t =
+    let e = c in
+    let s = e.args in
+    sym (compact_rows (view s.self) t s.epoch s.slot s.object ∙ stands (goal.at.returns e).Else-not-is_stored _ ∙ (rw (last (goal.at.returns c).After-highest ∙ ne_eqb _ _ c.if-highest-eq0.false)))

@@ -1,0 +1,42 @@
+-- `Ledger::list` meets its contract: the names of the manifest that is read.
+-- Assumes nothing.
+use mathlib.Core.Path.{sym, ◌∙◌}
+use mathlib.Core.List.{[]}
+use lib.Seq.{length-take-le}
+use Rattle.rules.specs.declared.Kind.TheVariants.{List as LIST}
+use Rattle.ledger.specs.Ledger.{view}
+use Rattle.ledger.proofs.Door.{turned_away}
+use Rattle.ledger.proofs.Live.{live-rows}
+use Rattle.ledger.proofs.HoldSteps.{read-few, read-room, listed}
+use Rattle.ledger.proofs.Ledger.list.Goals as goal
+
+pub returns-then-row-ne0 : goal.returns-then-row-ne0
+returns-then-row-ne0 c =
+    let w = c in
+    let st = c in
+    let s = st.args in
+    c.refused.ensures
+    ∙ turned_away s.self s.time (LIST s.hold) [] st.requires w.live_row-row.result (w.live_row-row.ensures ∙ sym (live-rows (view s.self) s.time s.hold 0).2) c.if-row-ne0.true
+
+pub slice_bounds-names-end : goal.slice_bounds-names-end
+slice_bounds-names-end c =
+    let m = c in
+    let st = c in
+    read-room st.args.self st.requires.is_sound st.args.time st.args.hold m.read_by-m.ensures
+
+pub slice_bounds-object_list-end : goal.slice_bounds-object_list-end
+slice_bounds-object_list-end c =
+    let m = c in
+    let st = c in
+    sym (length-take-le _ _ (read-room st.args.self st.requires.is_sound st.args.time st.args.hold m.read_by-m.ensures))
+
+pub returns : goal.returns
+returns c =
+    let o = c in
+    let m = c in
+    let n = c in
+    let w = c in
+    let st = c in
+    let s = st.args in
+    listed s.self s.time s.hold st.requires w.live_row-row.result (w.live_row-row.ensures ∙ sym (live-rows (view s.self) s.time s.hold 0).2) n.if-row-ne0.false
+    m.read_by-m.ensures o.object_list-list.ensures c.settled-self.ensures

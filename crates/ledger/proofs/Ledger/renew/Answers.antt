@@ -1,0 +1,52 @@
+-- `Ledger::renew` meets its contract: the hold has the new expiry, where it is live.
+-- Assumes nothing.
+use mathlib.Core.Path.{refl, sym, ◌∙◌}
+use mathlib.Core.List.{[], map}
+use native.Mathlib.Omega.{arith}
+use lib.ListN.{length-map}
+use Rattle.rules.specs.declared.Kind.TheVariants.{Renew as RENEW}
+use Rattle.rules.specs.Step.{act, answers, renewed}
+use Rattle.rules.specs.Words.{live_holds}
+use Rattle.holds.proofs.Places as holds
+use Rattle.ledger.specs.Ledger.{view}
+use Rattle.ledger.proofs.View.{sound_parts}
+use Rattle.ledger.proofs.Door.{turned_away}
+use Rattle.ledger.proofs.Live.{live-few, live-short, live-rows}
+use Rattle.ledger.proofs.HoldSteps.{changed_laid, done}
+use Rattle.ledger.proofs.Ledger.renew.Goals as goal
+
+pub returns-then-row-ne0 : goal.returns-then-row-ne0
+returns-then-row-ne0 c =
+    let w = c in
+    let st = c in
+    let s = st.args in
+    c.refused.ensures ∙ turned_away s.self s.time (RENEW s.hold s.expiry) [] st.requires w.live_row-row.result (w.live_row-row.ensures ∙ sym (live-rows (view s.self) s.time s.hold s.expiry).0) c.if-row-ne0.true
+
+pub live-live-requires : goal.live-live-requires
+live-live-requires c = let st = c in holds.few st.args.self.holds (sound_parts st.args.self st.requires.is_sound).holds
+
+pub renew-requires : goal.renew-requires
+renew-requires c = let st = c in live-few st.args.self st.requires.is_sound st.args.time c.live-live.ensures
+
+pub holding-self-requires : goal.holding-self-requires
+holding-self-requires c =
+    let a = c in
+    let st = c in
+    let s = st.args in
+    let xs = live_holds s.time (view s.self) in (
+      st.requires.is_sound,
+      changed_laid s.time s.self (map (renewed s.hold s.expiry)) a.live-live.ensures c.renew.ensures
+          (omega (arith, length-map xs (renewed s.hold s.expiry), live-short s.self st.requires.is_sound s.time a.live-live.ensures)),
+    )
+
+pub returns : goal.returns
+unfolding act answers
+returns c =
+    let r = c in
+    let a = c in
+    let w = c in
+    let st = c in
+    let s = st.args in
+    c.accepted.ensures
+    ∙ done s.time s.self (map (renewed s.hold s.expiry)) a.live-live.ensures r.renew.ensures (RENEW s.hold s.expiry) (λ q. refl) (λ q. refl) st.requires w.live_row-row.result
+    (w.live_row-row.ensures ∙ sym (live-rows (view s.self) s.time s.hold s.expiry).0) a.if-row-ne0.false c.holding-self.ensures
