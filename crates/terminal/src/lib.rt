@@ -1,5 +1,8 @@
 // Standard input and output, as the programs use them.
-use libc::{STDERR_FILENO, STDIN_FILENO, STDOUT_FILENO};
+#![tactic(auto)]
+
+use std::io;
+use std::io::Read;
 
 // The most bytes of standard input that a program takes.
 const LONGEST: usize = 65536;
@@ -13,37 +16,35 @@ pub enum Input {
     Failed,
 }
 
-pub fn say(text: &[u8]) {
-    io::write_all(STDOUT_FILENO, text);
+// A write that fails is passed over.
+pub fn say(rt: &impl Print, text: &[u8]) {
+    let _ = rt.write_all(text);
 }
 
-pub fn say_number(n: u64) {
-    io::print_decimal(STDOUT_FILENO, n);
+pub fn say_number(rt: &impl Print, n: u64) {
+    let _ = rt.print(n);
 }
 
 // A line of a text and a number.
-pub fn say_line(text: &[u8], n: u64) {
-    say(text);
-    say_number(n);
-    say(b"\n");
+pub fn say_line(rt: &impl Print, text: &[u8], n: u64) {
+    say(rt, text);
+    say_number(rt, n);
+    say(rt, b"\n");
 }
 
 // An error goes to standard error, so that standard output has only what the input says.
-pub fn say_error(text: &[u8]) {
-    io::write_all(STDERR_FILENO, text);
+pub fn say_error(rt: &impl Eprint, text: &str) {
+    let _ = rt.eprint(text);
 }
 
 // Reads a file that is open until it ends or the room is full, and answers how many bytes it put at the room's start; or
 // that a read failed, when nobody knows what the file has.
-pub fn read_open(file: i32, room: &mut [u8]) -> Input {
+pub fn read_open(file: &mut impl Read, room: &mut [u8]) -> Input {
     let mut done = 0;
     while done < room.len() {
-        let part = &mut room[done..];
-        let got = libc::read(file, part);
-        if got < 0 {
+        let Ok(n) = file.read(&mut room[done..]) else {
             return Input::Failed;
-        }
-        let n = io::count(got, part);
+        };
         if n == 0 {
             break;
         }
@@ -52,6 +53,7 @@ pub fn read_open(file: i32, room: &mut [u8]) -> Input {
     Input::Read(done)
 }
 
-pub fn read_input(room: &mut [u8]) -> Input {
-    read_open(STDIN_FILENO, room)
+pub fn read_input(rt: &impl io::Input, room: &mut [u8]) -> Input {
+    let mut input = rt.reader();
+    read_open(&mut input, room)
 }
