@@ -1,44 +1,47 @@
 // The program `list_bucket` (document 02, request 5): takes standard input as a listing of the store's bucket, and prints
 // what it says.
+#![tactic(auto)]
+
 use listing::{Listing, Optional};
+use std::io;
 use terminal::{Input, ROOM, say, say_error, say_line};
 
-fn say_manifest(manifest: Optional) {
+fn say_manifest(rt: &impl Print, manifest: Optional) {
     match manifest {
-        Optional::Some(n) => say_line(b"manifest ", n),
-        Optional::None => say(b"no manifest\n"),
+        Optional::Some(n) => say_line(rt, b"manifest ", n),
+        Optional::None => say(rt, b"no manifest\n"),
     }
 }
 
-fn say_bad(bad: Optional) {
+fn say_bad(rt: &impl Print, bad: Optional) {
     match bad {
-        Optional::Some(n) => say_line(b"bad ", n),
-        Optional::None => say(b"whole\n"),
+        Optional::Some(n) => say_line(rt, b"bad ", n),
+        Optional::None => say(rt, b"whole\n"),
     }
 }
 
-fn say_listing(said: Listing) {
+fn say_listing(rt: &impl Print, said: Listing) {
     let manifest = said.manifest;
     let bad = said.bad;
-    say_manifest(manifest);
-    say_line(b"objects ", said.objects);
-    say_bad(bad);
+    say_manifest(rt, manifest);
+    say_line(rt, b"objects ", said.objects);
+    say_bad(rt, bad);
 }
 
 // Lists the first n bytes; a listing that fills the room is too long, and nothing of it is said.
-fn list_read(room: &[u8], n: usize) {
+fn list_read(rt: &impl Print, room: &[u8], n: usize) {
     if n < room.len() {
-        say_listing(listing::read_listing(&room[..n]));
+        say_listing(rt, listing::read_listing(&room[..n]));
     } else {
-        say(b"too long\n");
+        say(rt, b"too long\n");
     }
 }
 
 // Lists standard input, at most 65,536 bytes. Where a read fails nothing is listed, and standard output stays empty.
-pub fn list() {
+pub fn list(rt: &(impl io::Input + Print + Eprint)) {
     let mut room = [0; ROOM];
-    match terminal::read_input(&mut room) {
-        Input::Read(n) => list_read(&room, n),
-        Input::Failed => say_error(b"list_bucket: cannot read standard input\n"),
+    match terminal::read_input(rt, &mut room) {
+        Input::Read(n) => list_read(rt, &room, n),
+        Input::Failed => say_error(rt, "list_bucket: cannot read standard input\n"),
     }
 }

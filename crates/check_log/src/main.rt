@@ -1,4 +1,6 @@
 // Checks a log. Its stored trace is the week at the depot, and its log our own run's.
-fn main() {
-    log_console::check();
+#![tactic(auto)]
+
+fn main(rt: HostRuntime) {
+    log_console::check(&rt);
 }

@@ -1,19 +1,22 @@
 // The program `judge` (document 01, "Records and names"): runs standard input on the fresh ledger, prints each verdict's
 // code on a line, then the bytes unread.
+#![tactic(auto)]
+
 ghost use Rattle.std.specs.Prelude.{◌≡◌, length};
 ghost use Rattle.replay.specs.Replay.{cut};
 ghost use Rattle.console.specs.Code.{ShowsCode};
 
 use ledger::Ledger;
 use replay::Front;
+use std::io;
 use terminal::{Input, ROOM, say, say_error, say_line};
 use verdicts::LONGEST_VERDICT;
 
 // A verdict's code stands behind the head of the record and that of its first field, a tag and a two-byte length each.
 const CODE_AT: usize = 6;
 
-fn say_code(code: u8) {
-    say_line(b"", code as u64);
+fn say_code(rt: &impl Print, code: u8) {
+    say_line(rt, b"", code as u64);
 }
 
 // The code of the verdict whose record these bytes start with.
@@ -24,7 +27,7 @@ fn code_of(verdict: &[u8; LONGEST_VERDICT]) -> u8
 }
 
 // Prints the code of each record's verdict, and answers the bytes unread. Each verdict takes the room of the one before.
-fn say_codes(trace: &[u8]) -> usize
+fn say_codes(rt: &impl Print, trace: &[u8]) -> usize
     ensures { result ≡ length (cut trace.now).rest }
 {
     let mut ledger = Ledger::fresh();
@@ -42,29 +45,29 @@ fn say_codes(trace: &[u8]) -> usize
         };
         ledger = stepped.ledger;
         read += n;
-        say_code(code_of(&verdict));
+        say_code(rt, code_of(&verdict));
     }
 }
 
-fn judge_trace(trace: &[u8]) {
-    let unread = say_codes(trace);
-    say_line(b"rest ", unread as u64);
+fn judge_trace(rt: &impl Print, trace: &[u8]) {
+    let unread = say_codes(rt, trace);
+    say_line(rt, b"rest ", unread as u64);
 }
 
 // Judges the first n bytes; a trace that fills the room is too long, and nothing of it is judged.
-fn judge_read(room: &[u8], n: usize) {
+fn judge_read(rt: &impl Print, room: &[u8], n: usize) {
     if n < room.len() {
-        judge_trace(&room[..n]);
+        judge_trace(rt, &room[..n]);
     } else {
-        say(b"too long\n");
+        say(rt, b"too long\n");
     }
 }
 
 // Judges standard input, at most 65,536 bytes. Where a read fails nothing is judged, and standard output stays empty.
-pub fn judge() {
+pub fn judge(rt: &(impl io::Input + Print + Eprint)) {
     let mut room = [0; ROOM];
-    match terminal::read_input(&mut room) {
-        Input::Read(n) => judge_read(&room, n),
-        Input::Failed => say_error(b"judge: cannot read standard input\n"),
+    match terminal::read_input(rt, &mut room) {
+        Input::Read(n) => judge_read(rt, &room, n),
+        Input::Failed => say_error(rt, "judge: cannot read standard input\n"),
     }
 }

@@ -1,4 +1,6 @@
 // Judges standard input. Its stored trace is the depot week (document 01).
-fn main() {
-    console::judge();
+#![tactic(auto)]
+
+fn main(rt: HostRuntime) {
+    console::judge(&rt);
 }

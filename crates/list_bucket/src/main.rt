@@ -1,4 +1,6 @@
 // Lists standard input. Its stored listing is of a depot's bucket: every line is good.
-fn main() {
-    bucket::list();
+#![tactic(auto)]
+
+fn main(rt: HostRuntime) {
+    bucket::list(&rt);
 }
