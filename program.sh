@@ -1,6 +1,6 @@
 # shellcheck shell=bash disable=SC2154
 # What `judge`, `list_bucket` and `check_log` share: proves and builds the program on first use, and again when its sources
-# have changed, runs it, and ends with the status that its output says: a Rattle program has no exit status of its own.
+# have changed, runs it, and ends with the status that its output says: the program itself ends with 0 whatever it prints.
 # Sourced, with $program its name, $work the crate that does its work, $arguments, $does, $files, $opened, $good and $bad what
 # --help says of it, of its files and of its statuses 0, 1 and 2, $lines the lines that it prints of an input that it takes, and
 # status_of, which returns their status; then `main "$@"`. A program that does not read standard input has its own
@@ -48,10 +48,10 @@ print_version() {
     put "$program $version"$'\n'
 }
 
-# The crates that the program is made of: those that crates.txt lists for its work; the kit's have no folder here.
+# The crates that the program is made of, its own last: those that crates.txt lists for its work; the kit's have no folder here.
 crates() {
     local crate
-    for crate in "$program" "$work" $(sed -n "s/^$work://p" "$root/crates.txt"); do
+    for crate in $(sed -n "s/^$work://p" "$root/crates.txt") "$work" "$program"; do
         [ ! -d "$root/crates/$crate" ] || echo "$crate"
     done
 }
@@ -72,27 +72,42 @@ is_built() {
     [ -x "$binary" ] && [ -z "$(find "${all[@]}" -newer "$binary" -print -quit)" ]
 }
 
-# Shows how far the build is: rt says `rt: NAME proved (N s)` of each crate.
+# Shows how far the build is: of each crate that it proves rt says `crate NAME: modules ..` and then `logic=proved ..`. Of a
+# crate that was proved before it says nothing, so that is known once the program's own, the last, is proved.
 show_progress() {
-    local line count=0 all
-    all=$(crates | wc -l)
+    local line name='' crate all proved=' ' count=0 now
+    mapfile -t all < <(crates)
     while IFS= read -r line; do
-        [[ $line == 'rt: '*' proved ('* ]] || continue
+        [[ $line != 'crate '*': modules '* ]] || { name=${line#crate } && name=${name%%:*}; }
+        [[ $line == logic=proved* && -n $name ]] || continue
+        proved+="$name "
+        for crate in "${all[@]}"; do
+            [[ $name == "$program" && $proved != *" $crate "* ]] || continue
+            count=$((count + 1))
+            echo "$program: $count of ${#all[@]}: $crate proved (unchanged since it was last proved)" >&2
+        done
+        now=$(date +%s)
         count=$((count + 1))
-        echo "$program: $count of $all: ${line#rt: }" >&2
+        echo "$program: $count of ${#all[@]}: $name proved ($((now - begun)) s)" >&2
+        begun=$now
+        name=
     done
 }
 
-# Without its stamp the program is built even where nothing but its file is missing. Standard input is the program's: the
-# build must not read it.
+# rt proves and links the program, leaves it in its crate's out/, and runs it once. What is kept is a copy, which no other run
+# of rt takes away. Standard input is the program's: the build must not read it.
 build() {
     echo "$program: proving and building the program; the first time takes some minutes" >&2
-    mkdir -p "$root/target" || die 5 "cannot make $root/target"
-    rm -f "$root/target/stamp/$program"
-    (trap - PIPE && cd "$root" && rt check "$program") < /dev/null 2>&1 | tee "$log" | show_progress
-    [ "${PIPESTATUS[0]}" -ne 0 ] || return 0
-    cat "$log" >&2
-    die 5 "not built; this log is $log"
+    local begun
+    begun=$(date +%s)
+    mkdir -p "$root/target/bin" || die 5 "cannot make $root/target/bin"
+    (trap - PIPE && cd "$root/crates/$program" && rt run) < /dev/null 2>&1 | tee "$log" | show_progress
+    if [ "${PIPESTATUS[0]}" -ne 0 ]; then
+        cat "$log" >&2
+        die 5 "not built; this log is $log"
+    fi
+    cp "$root/crates/$program/out/$program" "$binary.new" || die 5 "cannot write $binary.new"
+    mv -f "$binary.new" "$binary" || die 5 "cannot write $binary"
 }
 
 # Standard input is the file from here on; where it cannot be, $why says why.

@@ -405,28 +405,48 @@ fn judge_of(repository: &Path) -> Command {
     script
 }
 
-/// The part of a stand-in that makes the program: a shell script.
+/// The part of a stand-in that makes the program: a shell script. Like `rt`
+/// it is run in the program's crate.
 fn making(program: &str) -> String {
     format!(
-        "mkdir -p target/bin && cat > target/bin/judge << 'END' && chmod +x target/bin/judge\n\
+        "mkdir -p out && cat > out/judge << 'END' && chmod +x out/judge\n\
          #!/bin/sh\n{program}\nEND\n"
     )
+}
+
+/// What `rt` says of a crate that it proves.
+fn proving(name: &str) -> String {
+    format!("crate {name}: modules loaded=0 checked=27\nlogic=proved functions=6\n")
+}
+
+/// Puts a stand-in for `date` beside that for `rt`: it says the seconds that
+/// the file `now` has, at first none.
+fn stop_clock(repository: &Path) {
+    fs::write(repository.join("now"), "0\n").expect("the folder is cargo's");
+    let clock = format!("#!/bin/sh\nexec cat '{}'\n", repository.join("now").display());
+    let made = "printf %s \"$1\" > \"$2\" && chmod 755 \"$2\"";
+    by_shell(made, OsStr::new(&clock), &repository.join("bin/date"));
 }
 
 #[test]
 fn a_build_shows_how_far_it_is() {
     // It goes on only once its first crate has been shown, and would take the
-    // program's input if it were given that.
-    let rt = "echo 'rt: rules proved (12 s)'\n\
-              turns=0\n\
-              while [ ! -e shown ] && [ $turns -lt 300 ]; do sleep 0.1; turns=$((turns + 1)); done\n\
-              [ -e shown ] || exit 1\n\
-              cat\n\
-              echo 'logic=proved functions=6'\n\
-              echo 'rt: console proved (unchanged since it was last proved)'\n\
-              echo 'rt: judge proved (3 s)'\n\
-              echo 'rt: judge ran, and wrote what it must (0 s)'\n";
-    let folder = repository("progress", &(rt.to_string() + &making("cat")));
+    // program's input if it were given that. Of the second it says nothing.
+    let rt = format!(
+        "echo 12 > ../../now\n\
+         printf '{}'\n\
+         turns=0\n\
+         while [ ! -e ../../shown ] && [ $turns -lt 300 ]; do sleep 0.1; turns=$((turns + 1)); done\n\
+         [ -e ../../shown ] || exit 1\n\
+         cat\n\
+         echo 15 > ../../now\n\
+         printf '{}'\n\
+         echo 'rt: running out/judge; to give it other input, run that file yourself'\n",
+        proving("rules"),
+        proving("judge")
+    );
+    let folder = repository("progress", &(rt + &making("cat")));
+    stop_clock(&folder);
     let mut child = judge_of(&folder)
         .stdin(Stdio::piped())
         .stdout(Stdio::piped())
@@ -458,8 +478,12 @@ fn a_build_shows_how_far_it_is() {
 
 #[test]
 fn a_build_that_fails_shows_its_log() {
-    let said = "rt: rules proved (1 s)\nrt: console NOT PROVED (exit 1, 2 s)\n";
-    let folder = repository("not_built", &format!("printf '{said}'\nexit 1\n"));
+    let said = format!(
+        "rt: rules: begins with what a check kept\n{}fn console::judge: not proved\nlogic=not-proved\n",
+        proving("rules")
+    );
+    let folder = repository("not_built", &format!("echo 1 > ../../now\nprintf '{said}'\nexit 1\n"));
+    stop_clock(&folder);
     let done = ended(judge_of(&folder).stdin(Stdio::null()));
     assert_eq!((done.status.code(), &done.stdout[..]), (Some(FAILED), &b""[..]));
     let errors = String::from_utf8(done.stderr).expect("it is text");
