@@ -1,6 +1,8 @@
 // Standard input and output, as the programs use them.
 #![tactic(auto)]
 
+ghost use Rattle.terminal.specs.Reading.{FitsRoom, HasRead};
+
 use std::io;
 use std::io::Read;
 
@@ -39,7 +41,10 @@ pub fn say_error(rt: &impl Eprint, text: &str) {
 
 // Reads a file that is open until it ends or the room is full, and answers how many bytes it put at the room's start; or
 // that a read failed, when nobody knows what the file has.
-pub fn read_open(file: &mut impl Read, room: &mut [u8]) -> Input {
+pub fn read_open<R: Read>(file: &mut R, room: &mut [u8]) -> Input
+    ensures fits { FitsRoom result room.new }
+    ensures bytes { HasRead result (R.remaining file.old) (R.remaining file.new) room.new }
+{
     let mut done = 0;
     while done < room.len() {
         let Ok(n) = file.read(&mut room[done..]) else {
@@ -53,7 +58,9 @@ pub fn read_open(file: &mut impl Read, room: &mut [u8]) -> Input {
     Input::Read(done)
 }
 
-pub fn read_input(rt: &impl io::Input, room: &mut [u8]) -> Input {
+pub fn read_input(rt: &impl io::Input, room: &mut [u8]) -> Input
+    ensures { FitsRoom result room.new }
+{
     let mut input = rt.reader();
     read_open(&mut input, room)
 }
