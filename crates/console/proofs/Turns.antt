@@ -2,16 +2,13 @@
 -- Assumes nothing.
 use mathlib.Core.Path.{◌≡◌, refl, sym, ap, subst, ◌∙◌}
 use mathlib.Core.Bool.{Bool, true, false, cond}
-use mathlib.Core.List.{List, [], ◌∷◌}
-use mathlib.Core.Logic.{inl, inr}
+use mathlib.Core.List.{List}
 use Prim.Native.Nat.{ℕ, ◌+◌, ◌-◌, ◌≤◌}
 use native.Mathlib.Omega.{arith}
 use lib.Dec.{ltb}
 use lib.ListN.{length, take, drop, length-drop}
 use lib.Seq.{length-take-le, take_all, drop-drop}
 use borrow.Author.Tests.{ltb-true}
-use types.Run.{OneOf}
-use denote.Enum.Declared.{tag_of, declared}
 use Rattle.rules.specs.Step.{longest_verdict}
 use Rattle.fields.specs.declared.Next.{Next}
 use Rattle.fields.specs.declared.Next.TheVariants.{End, Torn, Record}
@@ -24,7 +21,6 @@ use Rattle.replay.specs.Front.{Judgement, answer_bytes, unchanged, judged_with, 
 use Rattle.replay.specs.Replay.{Cut, cut_at, cut}
 use Rattle.replay.proofs.Answers.{answer-fits}
 use Rattle.replay.proofs.Cutting.{Found, next-found, cut-next}
-use Rattle.replay.specs.contracts.Front.{enum}
 
 -- it stops with all of the bytes unread, or goes on behind a record; never for want of room
 abbrev pub Left : List ℕ → Front → Type 0
@@ -73,15 +69,13 @@ module _ {trace verdict : List ℕ} {read : ℕ} {l : Ledger} {r : Stepped} {b :
       (front_left l (drop read trace) verdict (omega (arith, t.going.room)))
 
   -- it stops
-  unread : (f : Front) → Left (drop read trace) f → OneOf (0 ∷ 1 ∷ 2 ∷ []) (tag_of (declared enum) f) → (cut (drop read trace)).rest ≡ drop read trace
+  unread : (f : Front) → Left (drop read trace) f → ((n k : ℕ) → f ≡ Judged n k → ⊥) → (cut (drop read trace)).rest ≡ drop read trace
   unread AtEnd e o = e
   unread IsTorn e o = e
   unread Full e o = absurd e
-  unread (Judged n k) e (inl o) = absurd (omega (arith, o))
-  unread (Judged n k) e (inr (inl o)) = absurd (omega (arith, o))
-  unread (Judged n k) e (inr (inr o)) = absurd (omega (arith, o))
+  unread (Judged n k) e o = absurd (o n k refl)
 
-  pub stops : OneOf (0 ∷ 1 ∷ 2 ∷ []) (tag_of (declared enum) r.front) → length trace - read ≡ length (cut trace).rest
+  pub stops : ((n k : ℕ) → r.front ≡ Judged n k → ⊥) → length trace - read ≡ length (cut trace).rest
   stops o = sym (ap length (t.going.same ∙ unread r.front left o) ∙ as_many_lem)
 
   -- it goes on
