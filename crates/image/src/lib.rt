@@ -1,4 +1,6 @@
 // The ledger as an image (document 02, request 6): written, and read back.
+#![tactic(auto)]
+
 mod entries;
 mod loading;
 mod rows;

@@ -1,4 +1,6 @@
 // A ledger as numbers, for callers that see no struct: as many as LEDGER, in the order that include/cuudhaqil.h has.
+#![tactic(auto)]
+
 ghost use Rattle.std.specs.Prelude.{◌≡◌, ◌*◌, ◌≤◌, length};
 ghost use Rattle.rules.specs.Limits.{limits, manifest_limit};
 ghost use Rattle.rules.specs.Lists.{conj};

@@ -4,7 +4,6 @@ use mathlib.Core.Path.{◌≡◌, refl, sym, ap, subst, ◌∙◌}
 use mathlib.Core.Bool.{Bool, true, false, cond}
 use mathlib.Core.List.{List, [], ◌∷◌}
 use Prim.Native.Nat.{ℕ}
-use types.Run.{OneOf, miss}
 use denote.Enum.Declared.{tag_of}
 use lib.Dec.{ltb}
 use lib.ListN.{length}
@@ -30,9 +29,9 @@ stepped_by l bytes a Malformed out = unchanged Full l out
 stepped_by l bytes a Short out = unchanged Full l out
 
 -- a verdict that was not written left all as it was
-pub unwritten : (l : Ledger) (bytes : List ℕ) (a : StepAnswer) (w : Write) (out : List ℕ) → OneOf (1 ∷ 2 ∷ []) (tag_of write.the_type w)
+pub unwritten : (l : Ledger) (bytes : List ℕ) (a : StepAnswer) (w : Write) (out : List ℕ) → ((k : ℕ) → w ≡ Written k → ⊥)
     → stepped_by l bytes a w out ≡ unchanged Full l out
-unwritten l bytes a (Written k) out h = absurd (miss (1 ∷ 2 ∷ []) 0 tt h)
+unwritten l bytes a (Written k) out h = absurd (h k refl)
 unwritten l bytes a Malformed out h = refl
 unwritten l bytes a Short out h = refl
 

@@ -10,7 +10,6 @@ use lib.Dec.{ltb}
 use lib.ListN.{length, take, drop, length-append, length-drop, drop_of_length-le}
 use lib.Seq.{length-take-le, take_all, take-append-add, take-append_seam, drop-append-add, drop-append_seam, drop-drop}
 use borrow.Author.Tests.{eq-eqb, ne_eqb}
-use types.Run.{OneOf, miss}
 use denote.Enum.Declared.{tag_of, declared}
 use borrow.Rule.Slice.PartMut.{put_mid, same_len_mid}
 use Rattle.fields.specs.declared.Next.{Next}
@@ -216,16 +215,16 @@ module _ {l₀ : Ledger} {trace out₀ out : List ℕ} {l : Ledger} {read writte
       went ∙ ap (λ (f : Front). behind read written (take written out) (goes_on j (drop read trace) f)) at ∙ ap (behind read written (take written out)) end
       ∙ (λ i. record { answer = record { ending = x; ledger = r.ledger; read = add-zero read i; written = add-zero written i }; buffer = sym put_back i })
 
-  pub stops : {x : Ending} → OneOf (0 ∷ 1 ∷ 2 ∷ []) (tag_of (declared enum) r.front) → x ≡ ending_at r.front
+  pub stops : {x : Ending} → ((n k : ℕ) → r.front ≡ Judged n k → ⊥) → x ≡ ending_at r.front
       → replay_of l₀ trace out₀ ≡ record { answer = record { ending = x; ledger = r.ledger; read = read; written = written }; buffer = now }
   stops {x} o e = by r.front refl o e
     where
-      by : (f : Front) → r.front ≡ f → OneOf (0 ∷ 1 ∷ 2 ∷ []) (tag_of (declared enum) f) → x ≡ ending_at f
+      by : (f : Front) → r.front ≡ f → ((n k : ℕ) → f ≡ Judged n k → ⊥) → x ≡ ending_at f
           → replay_of l₀ trace out₀ ≡ record { answer = record { ending = x; ledger = r.ledger; read = read; written = written }; buffer = now }
       by AtEnd at o e = ends AtEnd x at (ap (λ (y : Ending). stopped y r.ledger b) (sym e))
       by IsTorn at o e = ends IsTorn x at (ap (λ (y : Ending). stopped y r.ledger b) (sym e))
       by NoRoom at o e = ends NoRoom x at (ap (λ (y : Ending). stopped y r.ledger b) (sym e))
-      by (Judged n k) at o e = absurd (miss (0 ∷ 1 ∷ 2 ∷ []) 3 tt o)
+      by (Judged n k) at o e = absurd (o n k refl)
 
   -- it goes on
   module _ (n k : ℕ) (at : r.front ≡ Judged n k) where

@@ -1,4 +1,6 @@
 // Records judged on a ledger: the one at the front of a trace, and a trace whole (document 01, "Records and names").
+#![tactic(auto)]
+
 ghost use Rattle.std.specs.Prelude.{◌≡◌};
 ghost use Rattle.ledger.specs.Step.{judged};
 ghost use Rattle.records.specs.Steps.{decode_step};
