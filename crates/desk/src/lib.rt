@@ -1,5 +1,7 @@
 // The sale desk above the ledger (document 02, request 2): a sale by one LOOK and one rate sheet, and the route card. Of the
 // ledger it knows only what Ledger::step promises.
+#![tactic(auto)]
+
 ghost use Rattle.std.specs.Prelude.{◌≡◌, true, ◌≤◌};
 ghost use Rattle.rules.specs.Step.{code as code_of};
 ghost use Rattle.sheets.specs.Sheets.{sheet_formed};

@@ -1,4 +1,6 @@
 // The C interface: numbers and byte slices, no `requires`. include/cuudhaqil.h says what each call promises.
+#![tactic(auto)]
+
 pub mod codec;
 pub mod ledgers;
 pub mod names;

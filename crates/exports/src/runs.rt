@@ -37,12 +37,7 @@ pub fn cuudhaqil_run(trace: &[u8], out: &mut [u8], counts: &mut [u64]) -> u64
 }
 
 // The run on the ledger that the numbers say, which then are the next ledger's.
-pub fn cuudhaqil_run_on(
-    ledger: &mut [u64],
-    trace: &[u8],
-    out: &mut [u8],
-    counts: &mut [u64],
-) -> u64
+pub fn cuudhaqil_run_on(ledger: &mut [u64], trace: &[u8], out: &mut [u8], counts: &mut [u64]) -> u64
     ensures { run_on ledger.old trace.now out.old counts.old ≡ record { answer = result; ledger = ledger.new; out = out.new; counts = counts.new } }
 {
     if ledger.len() < LEDGER {

@@ -29,4 +29,4 @@ returns c =
     put-part (hold_bytes 0 a.hold) a.out.now c.put_row.new.out hold_size c.put_row.ensures (length-hold 0 a.hold)
 
 pub slice_bounds-put_row-end-5 : goal.slice_bounds-put_row-end-5
-slice_bounds-put_row-end-5 c = ?
+slice_bounds-put_row-end-5 c = sym (length-take-le hold_size c.args.out.now (room (goal.at.slice_bounds-put_row-end-5 c).Start))

@@ -37,8 +37,8 @@ overflow_add-size c = omega (arith, few (goal.at.overflow_add-size c).Start)
 pub slice_bounds-names-end : goal.slice_bounds-names-end
 slice_bounds-names-end c = omega (arith, few (goal.at.slice_bounds-names-end c).Start, many (goal.at.slice_bounds-names-end c).Start)
 
-pub slice_bounds-put_row-end-5 : goal.slice_bounds-put_row-end-5
-slice_bounds-put_row-end-5 c = sym (listed (goal.at.slice_bounds-put_row-end-5 c).Start)
+pub slice_bounds-put_row-end-3 : goal.slice_bounds-put_row-end-3
+slice_bounds-put_row-end-3 c = sym (listed (goal.at.slice_bounds-put_row-end-3 c).Start)
 
 pub slice_bounds-put_row-end-4 : goal.slice_bounds-put_row-end-4
 slice_bounds-put_row-end-4 c = omega (arith, long (goal.at.slice_bounds-put_row-end-4 c).Start, c.requires.1)
@@ -54,5 +54,5 @@ returns c =
     let a = c.args in
     put-part (manifest_bytes 0 (manifest_of a.m)) a.out.now c.put_row.new.out (manifest_size + 8 * a.m.count) c.put_row.ensures (long (goal.at.returns c).Start)
 
-pub slice_bounds-put_row-end-3 : goal.slice_bounds-put_row-end-3
-slice_bounds-put_row-end-3 c = ?
+pub slice_bounds-put_row-end-5 : goal.slice_bounds-put_row-end-5
+slice_bounds-put_row-end-5 c = sym (length-take-le (manifest_size + 8 * c.args.m.count) c.args.out.now (omega (arith, long (goal.at.slice_bounds-put_row-end-5 c).Start, c.requires.1)))

@@ -39,4 +39,4 @@ returns c =
     (c.put_row.ensures ∙ ap (λ ns. row_of object_row (record { numbers = ns; names = (object_cells a.place a.o).names })) c.object_numbers-numbers.ensures ∙ sym row) (long (goal.at.returns c).Else-o-eq0)
 
 pub slice_bounds-put_row-end-5 : goal.slice_bounds-put_row-end-5
-slice_bounds-put_row-end-5 c = ?
+slice_bounds-put_row-end-5 c = sym (length-take-le object_size c.args.out.now (room (goal.at.slice_bounds-put_row-end-5 c).Else-o-eq0))

@@ -12,12 +12,12 @@ use Rattle.image.proofs.entries.spot_at.Goals.{After-is_object_at, After-object_
 use Rattle.image.proofs.entries.spot_at.Goals as goal
 
 -- the head that was found
-held : (c : In-Holds) → row_head 0x64 21 0 c.args.s.now ≡ Holds c.in-Holds.field
+held : (c : In-Holds) → row_head 0x64 21 0 c.args.s.now ≡ Holds c.in-Holds.field-0
 held c = sym c.row_head-head.ensures ∙ c.in-Holds.is
 
-row : (c : In-Holds) → row_at object_row c.args.s.now ≡ present object_row c.args.s.now c.in-Holds.field
+row : (c : In-Holds) → row_at object_row c.args.s.now ≡ present object_row c.args.s.now c.in-Holds.field-0
 unfolding total
-row c = row_is object_row c.args.s.now c.in-Holds.field (held c)
+row c = row_is object_row c.args.s.now c.in-Holds.field-0 (held c)
 
 -- the numbers that were read are the row's
 numbers : (c : After-object_columns-v) → c.object_columns-v.result ≡ (row_at object_row c.args.s.now).value.numbers
@@ -31,7 +31,7 @@ unfolding total
 returns-in_default c = c.no_spot.ensures ∙ sym (spot_none c.args.place c.args.s.now (ap (λ (r : Row Cells). r.found) (row_bad object_row c.args.s.now (sym c.row_head-head.ensures ∙ c.in_default.is))))
 
 pub object_columns-v-requires : goal.object_columns-v-requires
-object_columns-v-requires c = let f = head-formed 0x64 21 0 c.args.s.now c.in-Holds.field (held (c)) in omega (arith, f.room, f.wide)
+object_columns-v-requires c = let f = head-formed 0x64 21 0 c.args.s.now c.in-Holds.field-0 (held (c)) in omega (arith, f.room, f.wide)
 
 pub returns-then-not-is_object_at : goal.returns-then-not-is_object_at
 returns-then-not-is_object_at c = c.no_spot-then-not-is_object_at.ensures ∙ sym (spot_other c.args.place c.args.s.now (sym (tests (goal.at.returns-then-not-is_object_at c).After-is_object_at) ∙ c.if-not-is_object_at.true))
