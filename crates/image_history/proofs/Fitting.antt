@@ -265,7 +265,7 @@ module _ (L : Limits) (test : State → Bool) where
   ledger_from-narrow : (s : State) (qs : List Ask) → Narrow s → all ask_fits qs ≡ true → Narrow (ledger_from L test s qs)
   unfolding ledger_from all
   ledger_from-narrow s [] r e = r
-  ledger_from-narrow s (a ∷ qs) r e = ledger_from-narrow _ qs (next-narrow s a r (and_left (ask_fits a) (all ask_fits qs) e)) (and_right (ask_fits a) (all ask_fits qs) e)
+  ledger_from-narrow s (a ∷ qs) r e = ledger_from-narrow (next L test s a) qs (next-narrow s a r (and_left (ask_fits a) (all ask_fits qs) e)) (and_right (ask_fits a) (all ask_fits qs) e)
 
 -- ---- from the fresh ledger on
 

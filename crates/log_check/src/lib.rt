@@ -1,5 +1,7 @@
 // Another maker's log checked against our own verdicts (document 02, request 12): verdict by verdict, through room for the
 // longest one.
+#![tactic(auto)]
+
 ghost use Rattle.std.specs.Prelude.{◌≡◌};
 ghost use Rattle.image.specs.Reading.{read_of};
 ghost use Rattle.log_check.specs.Check.{is_prefix, ended_at, checked_of};
