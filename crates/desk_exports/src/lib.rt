@@ -1,4 +1,6 @@
 // The sale desk for C: numbers and byte slices, no `requires`. include/cuudhaqil_desk.h says what each call promises.
+#![tactic(auto)]
+
 ghost use Rattle.std.specs.Prelude.{◌≡◌, ◌*◌, ◌≤◌, length};
 ghost use Rattle.desk.specs.Card.{row_limit};
 ghost use Rattle.desk.specs.Sale.{sale_code};

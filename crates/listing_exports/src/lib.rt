@@ -1,4 +1,6 @@
 // The listing of a bucket for C: bytes and numbers, no `requires`. include/cuudhaqil_listing.h says what the call promises.
+#![tactic(auto)]
+
 ghost use Rattle.std.specs.Prelude.{◌≡◌};
 ghost use Rattle.listing_exports.specs.Calls.{is_some, or_zero, read_listing};
 

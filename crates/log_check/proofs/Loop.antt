@@ -9,7 +9,6 @@ use native.Mathlib.Omega.{arith}
 use lib.Dec.{ltb, eqb}
 use lib.ListN.{length, take, drop, length-append, length-drop}
 use lib.Seq.{length-take-le, take_all, take-append_seam, drop-drop}
-use types.Run.{OneOf, miss}
 use denote.Enum.Declared.{tag_of, declared}
 use borrow.Author.Tests.{ltb-true, eq-eqb, ne_eqb}
 use Rattle.fields.specs.declared.Next.{Next}
@@ -122,18 +121,18 @@ module _ {l₀ : Ledger} {trace log verdict : List ℕ} {l : Ledger} {read agree
       (front_outcome index l (drop read trace) (drop agreed log) verdict (omega (arith, t.before.room)))
 
   -- no record is judged any more
-  pub at_exit : {x : Checked} → OneOf (0 ∷ 1 ∷ 2 ∷ []) (tag_of (declared enum) r.front) → x ≡ ended_at r.front (length log - agreed) index → x ≡ checked_of l₀ trace log
+  pub at_exit : {x : Checked} → ((n k : ℕ) → r.front ≡ Judged n k → ⊥) → x ≡ ended_at r.front (length log - agreed) index → x ≡ checked_of l₀ trace log
   at_exit {x} o e = e ∙ sym (t.before.same ∙ by r.front outcome o)
     where
       left-none : none (drop agreed log) ≡ eqb (length log - agreed) 0
       left-none = sym (length_none (drop agreed log)) ∙ ap (λ (n : ℕ). eqb n 0) (length-drop agreed log)
 
-      by : (f : Front) → Outcome index l (drop read trace) (drop agreed log) j f → OneOf (0 ∷ 1 ∷ 2 ∷ []) (tag_of (declared enum) f)
+      by : (f : Front) → Outcome index l (drop read trace) (drop agreed log) j f → ((n k : ℕ) → f ≡ Judged n k → ⊥)
           → found index l (drop read trace) (drop agreed log) ≡ ended_at f (length log - agreed) index
       by AtEnd d o = d ∙ ap (λ (b : Bool). cond b Agree (Differs index)) left-none
       by IsTorn d o = d
       by Full d o = absurd d
-      by (Judged n k) d o = absurd (miss (0 ∷ 1 ∷ 2 ∷ []) 3 tt o)
+      by (Judged n k) d o = absurd (o n k refl)
 
   -- a record was judged
   module _ (n k : ℕ) (at : r.front ≡ Judged n k) where

@@ -19,7 +19,7 @@ iteration : (s : After-step_record-stepped)
 iteration s = record { before = s.loop-n.invariant; stepped = s.step_record-stepped.ensures }
 
 pub returns-in_default : goal.returns-in_default
-returns-in_default c = at_exit (iteration (goal.at.returns-in_default c).After-step_record-stepped) c.in_default.is c.ended.ensures
+returns-in_default c = at_exit (iteration (goal.at.returns-in_default c).After-step_record-stepped) c.in_default.not-Judged c.ended.ensures
 
 pub slice_bounds-verdict-end : goal.slice_bounds-verdict-end
 slice_bounds-verdict-end c = let known = c in verdict-within (iteration (goal.at.slice_bounds-verdict-end known).After-step_record-stepped) _ _ known.in-Judged.is
