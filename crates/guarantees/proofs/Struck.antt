@@ -27,7 +27,7 @@ stays l a e = by (eqb (number_on l a.request) 0) refl (leb (verdict_size (judged
 ledger_after_lem : (l : Ledger) (asks : List Ask) → ledger_after l asks ≡ after kept_after l asks
 unfolding ledger_after after
 ledger_after_lem l [] = refl
-ledger_after_lem l (a ∷ asks) = ledger_after_lem _ asks
+ledger_after_lem l (a ∷ asks) = ledger_after_lem (kept_after l a) asks
 
 pub verdicts_kept_lem : (l : Ledger) (marks : List Bool) (asks : List Ask) → within marks (refusals kept_after refused_on l asks) ≡ true
     → verdicts_on l (others marks asks) ≡ others marks (verdicts_on l asks)
