@@ -1,4 +1,6 @@
 // Images for C: bytes and numbers, no `requires`. include/cuudhaqil_image.h says what each call promises.
+#![tactic(auto)]
+
 ghost use Rattle.std.specs.Prelude.{◌≡◌};
 ghost use Rattle.image.specs.Reading.{read_code};
 ghost use Rattle.image.specs.Writing.{write_code};

@@ -1,4 +1,6 @@
 // The check of a log for C: bytes and numbers, no `requires`. include/cuudhaqil_log.h says what the call promises.
+#![tactic(auto)]
+
 ghost use Rattle.std.specs.Prelude.{◌≡◌};
 ghost use Rattle.log_exports.specs.Calls.{found_of, check_log};
 

@@ -1,9 +1,8 @@
-use mathlib.Core.Path.{◌≡◌, refl}
-use mathlib.Core.List.{◌++◌, append_assoc, append-nil}
-use Prim.Native.Nat.{◌+◌, ◌-◌, ◌%◌, ◌≤◌}
+use mathlib.Core.Path.{◌≡◌}
+use mathlib.Core.List.{append_assoc}
+use Prim.Native.Nat.{◌+◌, ◌-◌, ◌%◌}
 use native.Mathlib.Omega.{arith}
-use lib.ListN.{length, drop, length-set}
-use lib.Seq.{drop-length}
+use lib.ListN.{length-set}
 use Rattle.store_names.specs.Decimal.{digits}
 use Rattle.store_names.proofs.Bytes.{drop-set}
 use Rattle.store_names.proofs.Digits.{digits_last}

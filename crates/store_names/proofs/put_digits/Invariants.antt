@@ -1,14 +1,10 @@
 -- `store_names::put_digits` meets its contract. The invariant: the digits of the rest, and then what is written, are the digits of all.
 -- Assumes nothing.
-use mathlib.Core.Path.{◌≡◌, refl}
-use mathlib.Core.List.{◌++◌, append_assoc, append-nil}
-use Prim.Native.Nat.{◌+◌, ◌-◌, ◌%◌, ◌≤◌}
-use native.Mathlib.Omega.{arith}
-use lib.ListN.{length, drop, length-set}
-use lib.Seq.{drop-length}
+use mathlib.Core.Path.{◌≡◌}
+use mathlib.Core.List.{◌++◌}
+use Prim.Native.Nat.{◌≤◌}
+use lib.ListN.{length, drop}
 use Rattle.store_names.specs.Decimal.{digits}
-use Rattle.store_names.proofs.Bytes.{drop-set}
-use Rattle.store_names.proofs.Digits.{digits_last}
 use Rattle.store_names.proofs.put_digits.Given as goal
 
 abbrev pub invariant-loop-i : goal.invariant-loop-i

@@ -1,11 +1,10 @@
 -- `store_names::put_in` meets its contract: the folder stands first, then the digits, the suffix, and what stood there.
 -- Assumes nothing.
-use mathlib.Core.Path.{◌≡◌, refl, sym, ap}
+use mathlib.Core.Path.{◌≡◌, refl, ap}
 use mathlib.Core.List.{List, ◌++◌}
 use Prim.Native.Nat.{ℕ, ◌+◌, ◌<◌}
 use native.Mathlib.Omega.{arith}
 use lib.ListN.{length, length-append}
-use lib.Seq.{length-take-le}
 use Rattle.store_names.specs.declared.NameWrite.TheVariants.{Full}
 use Rattle.store_names.specs.Names.{name_digits, put_first}
 use Rattle.store_names.specs.Decimal.{digits}

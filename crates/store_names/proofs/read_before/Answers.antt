@@ -5,10 +5,10 @@ use mathlib.Core.Bool.{and-false}
 use mathlib.Core.List.{List}
 use Prim.Native.Nat.{ℕ, ◌-◌}
 use native.Mathlib.Omega.{arith}
-use borrow.Author.Tests.{lt-leb, le-leb, not-true, not-false}
+use borrow.Author.Tests.{lt-leb, le-leb}
 use lib.Dec.{leb}
 use lib.ListN.{length, drop, length-drop}
-use lib.Seq.{take_all, length-take-le}
+use lib.Seq.{take_all}
 use Rattle.store_names.specs.Names.{number_before, same_bytes, name_digits}
 use Rattle.store_names.proofs.read_before.Goals.{After-same_bytes}
 use Rattle.store_names.proofs.read_before.Goals as goal

@@ -1,11 +1,11 @@
-use mathlib.Core.Path.{◌≡◌, refl, sym, ◌∙◌}
+use mathlib.Core.Path.{◌≡◌, sym, ◌∙◌}
 use mathlib.Core.List.{List, ◌∷◌}
-use Prim.Native.Nat.{ℕ, ◌+◌, ◌-◌, ◌*◌, ◌≤◌}
+use Prim.Native.Nat.{ℕ, ◌+◌, ◌-◌, ◌*◌}
 use native.Mathlib.Numerals.{add-one}
 use native.Mathlib.Omega.{arith}
-use lib.ListN.{length, get_or, drop, drop_of_length-le}
+use lib.ListN.{get_or, drop, drop_of_length-le}
 use lib.Seq.{drop-cons}
-use Rattle.store_names.specs.Decimal.{largest, decimal, decimal_from}
+use Rattle.store_names.specs.Decimal.{decimal, decimal_from}
 use Rattle.store_names.proofs.Digits.{digit, below-digits, above_digits, decimal_digit, decimal-other, decimal_large, decimal_end}
 use Rattle.store_names.proofs.read_digits.Goals.{Else-b-gt57, In-loop-i}
 use Rattle.store_names.proofs.read_digits.Goals as goal

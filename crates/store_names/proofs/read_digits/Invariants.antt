@@ -1,14 +1,9 @@
 -- `store_names::read_digits` meets its contract. The invariant: what the rest says behind n is what all says.
 -- Assumes nothing.
-use mathlib.Core.Path.{◌≡◌, refl, sym, ◌∙◌}
-use mathlib.Core.List.{List, ◌∷◌}
-use Prim.Native.Nat.{ℕ, ◌+◌, ◌-◌, ◌*◌, ◌≤◌}
-use native.Mathlib.Numerals.{add-one}
-use native.Mathlib.Omega.{arith}
-use lib.ListN.{length, get_or, drop, drop_of_length-le}
-use lib.Seq.{drop-cons}
+use mathlib.Core.Path.{◌≡◌}
+use Prim.Native.Nat.{◌-◌, ◌≤◌}
+use lib.ListN.{length, drop}
 use Rattle.store_names.specs.Decimal.{largest, decimal, decimal_from}
-use Rattle.store_names.proofs.Digits.{digit, below-digits, above_digits, decimal_digit, decimal-other, decimal_large, decimal_end}
 use Rattle.store_names.proofs.read_digits.Given as goal
 
 abbrev pub invariant-loop-i : goal.invariant-loop-i
