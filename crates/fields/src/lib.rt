@@ -2,6 +2,7 @@
 // `put_words` and `put_head` ask for the room that they read or fill; they serve the crates above and are no operation
 // of the ledger's.
 #![tactic(auto)]
+
 ghost use Rattle.std.specs.Prelude.{◌≡◌, ◌+◌, ◌*◌, ◌≤◌, ◌<◌, ◌∷◌, length, take, drop};
 ghost use Rattle.fields.specs.Bytes.{be, value_of, kept64, words, words_of};
 ghost use Rattle.fields.specs.Fields.{head_of, over, next_of};

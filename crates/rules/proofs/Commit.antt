@@ -11,7 +11,7 @@ use borrow.Author.Tests.{ltb-false, leb-true, leb-false, le-leb, lt-leb, le-ltb,
 use Rattle.rules.specs.declared.Answer.TheVariants.{Done, Refused}
 use Rattle.rules.specs.declared.Kind.TheVariants.{Commit as COMMIT}
 use Rattle.rules.specs.Limits.{Limits}
-use Rattle.rules.specs.Lists.{◌∈◌, none}
+use Rattle.rules.specs.Lists.{◌∈◌}
 use Rattle.rules.specs.Request.{Ask, Asked}
 use Rattle.rules.specs.Sound.{sound}
 use Rattle.rules.specs.State.{State}

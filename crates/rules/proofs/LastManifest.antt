@@ -1,11 +1,11 @@
 -- "At manifest 2^64-1 every slot gives 6. .. smaller numbers still go first."
 -- Assumes nothing.
-use mathlib.Core.Path.{◌≡◌, refl, sym, ap, ◌∙◌}
+use mathlib.Core.Path.{◌≡◌, ap}
 use mathlib.Core.Logic.{◌⊎◌, inl, inr}
 use mathlib.Core.Bool.{Bool, true}
 use mathlib.Core.List.Memᴰ
 use mathlib.Core.List.{List, [], ◌∷◌}
-use Prim.Native.Nat.{ℕ, suc, ◌^◌, ◌≤◌, ◌<◌}
+use Prim.Native.Nat.{ℕ}
 use native.Mathlib.Omega.{arith}
 use borrow.Author.Tests.{le-leb}
 use Rattle.rules.specs.declared.Kind.{Kind}
@@ -14,9 +14,9 @@ use Rattle.rules.specs.Limits.{Limits}
 use Rattle.rules.specs.Lists.{◌∈◌}
 use Rattle.rules.specs.Request.{Asked}
 use Rattle.rules.specs.State.{State}
-use Rattle.rules.specs.Step.{rows_of, verdict}
+use Rattle.rules.specs.Step.{rows_of}
 use Rattle.rules.specs.Table.{◌if◌, row6, rows}
-use Rattle.rules.specs.Verdict.{LastManifest, Past, slots_of}
+use Rattle.rules.specs.Verdict.{LastManifest, slots_of}
 use Rattle.rules.proofs.Table.{verdict-at-most, verdict-smallest}
 
 -- the only element of a list of one

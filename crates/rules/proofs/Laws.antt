@@ -4,17 +4,15 @@ use mathlib.Core.Path.{◌≡◌, refl, sym, ap, ap₂, ◌∙◌}
 use mathlib.Core.Bool.{Bool, true, false, not, cond, ◌&&◌, ◌||◌}
 use mathlib.Core.List.Memᴰ
 use mathlib.Core.List.{List, [], ◌∷◌, ◌++◌, map}
-use Prim.Native.Nat.{ℕ, suc, ◌^◌, ◌<◌}
-use native.Mathlib.Omega.{arith}
+use Prim.Native.Nat.{ℕ, suc}
 use lib.Dec.{eqb}
 use lib.ListN.{set}
-use borrow.Author.Tests.{le-leb, eq-eqb, eqb-true}
+use borrow.Author.Tests.{eq-eqb, eqb-true}
 use Rattle.rules.specs.declared.Hold.{Hold}
 use Rattle.rules.specs.declared.Object.{Object}
 use Rattle.rules.specs.Lists.{◌∈◌, has, keep, lookup, maximum, sorted}
-use Rattle.rules.specs.State.{Manifest, State, first_manifest, free, kept, objects, occupied}
-use Rattle.rules.specs.Step.{clear, collect, collected, held_by, place, publish, tidy}
-use Rattle.rules.specs.Table.{row6}
+use Rattle.rules.specs.State.{Manifest, State, first_manifest, free, objects, occupied}
+use Rattle.rules.specs.Step.{clear, collect, collected, held_by, place, tidy}
 use Rattle.rules.specs.Words.{dead, listed, live, live_holds, manifest_of, pending}
 use Rattle.rules.proofs.Lists.{any_same, in_any, keep_in, keep_same, true-false}
 

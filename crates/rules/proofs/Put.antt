@@ -16,7 +16,7 @@ use Rattle.rules.specs.Agreement.{Agrees, Match, Objects, Safe}
 use Rattle.rules.specs.History.{History, Stored, current_number, listed_at, lists, named_above, stored_at, with_objects}
 use Rattle.rules.specs.Limits.{Limits}
 use Rattle.rules.specs.Lists.{◌∈◌, keep}
-use Rattle.rules.specs.State.{State, kept, objects, occupied}
+use Rattle.rules.specs.State.{State, objects, occupied}
 use Rattle.rules.specs.Step.{place, put}
 use Rattle.rules.specs.Table.{nonzero}
 use Rattle.rules.specs.Words.{stored}

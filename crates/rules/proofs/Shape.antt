@@ -17,7 +17,6 @@ use Rattle.rules.specs.Limits.{Limits, currency_limit}
 use Rattle.rules.specs.Lists.{◌∈◌, any, conj, distinct, rising_above}
 use Rattle.rules.specs.Sound.{hold_sound, is_held, is_writer, manifest_sound, name_sound, object_sound, ordered, place_sound, sound, unused}
 use Rattle.rules.specs.State.{Manifest, State, epoch_of, free, kept, objects, occupied}
-use Rattle.rules.specs.Step.{place}
 use Rattle.rules.specs.Words.{live}
 use Rattle.rules.proofs.Lists.{all_in, and_both, and_left, and_right, any_in, conj-true, in_all, in_any, in_keep, keep_in, true-conj}
 

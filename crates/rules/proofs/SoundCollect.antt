@@ -10,10 +10,9 @@ use Rattle.rules.specs.declared.Hold.{Hold}
 use Rattle.rules.specs.declared.Object.{Object}
 use Rattle.rules.specs.Limits.{Limits}
 use Rattle.rules.specs.Lists.{◌∈◌, distinct, has, keep}
-use Rattle.rules.specs.Sound.{ordered}
 use Rattle.rules.specs.State.{Manifest, State, first_manifest, free, kept, objects, occupied}
 use Rattle.rules.specs.Step.{clear, collect}
-use Rattle.rules.specs.Words.{dead, listed, live, manifest_of, pending, stored}
+use Rattle.rules.specs.Words.{dead, listed, live, manifest_of, pending}
 use Rattle.rules.proofs.Collect.{clear-from, clear-to}
 use Rattle.rules.proofs.Lists.{in_any, in_keep, lookup_in, or_left, or_right}
 use Rattle.rules.proofs.Numbers.{distinct-keep, in_has}

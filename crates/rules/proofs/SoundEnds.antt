@@ -9,11 +9,10 @@ use lib.Dec.{eqb}
 use borrow.Author.Tests.{eqb-true}
 use Rattle.rules.specs.declared.Hold.{Hold}
 use Rattle.rules.specs.Limits.{Limits}
-use Rattle.rules.specs.Lists.{◌∈◌, any, distinct}
-use Rattle.rules.specs.Sound.{ordered}
+use Rattle.rules.specs.Lists.{◌∈◌, any}
 use Rattle.rules.specs.State.{Manifest, State, kept}
 use Rattle.rules.specs.Step.{settle, tidy}
-use Rattle.rules.specs.Words.{live, stored}
+use Rattle.rules.specs.Words.{live}
 use Rattle.rules.proofs.Lists.{any_in, keep_in}
 use Rattle.rules.proofs.Numbers.{keep-length, rising-keep}
 use Rattle.rules.proofs.Ordered.{ordered-keep}

@@ -12,11 +12,10 @@ use lib.ListN.{length, length-map}
 use borrow.Author.Tests.{ltb-false, lt-ltb, eqb-false}
 use Rattle.rules.specs.declared.Hold.{Hold}
 use Rattle.rules.specs.Limits.{Limits}
-use Rattle.rules.specs.Lists.{◌∈◌, any, distinct, keep, rising_above}
-use Rattle.rules.specs.Sound.{ordered}
+use Rattle.rules.specs.Lists.{◌∈◌, any, keep, rising_above}
 use Rattle.rules.specs.State.{Manifest, State, free, kept, objects}
 use Rattle.rules.specs.Step.{insert_hold, other, renewed, with_holds}
-use Rattle.rules.specs.Words.{active, live, stored}
+use Rattle.rules.specs.Words.{active, live}
 use Rattle.rules.proofs.Holds.{Active, insert_hold-from, renewed-live, renewed-manifest, renewed-number}
 use Rattle.rules.proofs.Lists.{and_both, and_left, and_right, keep_in, or_false-left, or_false_right}
 use Rattle.rules.proofs.Numbers.{keep-length, rising-keep}

@@ -16,7 +16,6 @@ use Rattle.rules.specs.declared.Role.{Role}
 use Rattle.rules.specs.declared.Role.TheVariants.{Compactor, Writer}
 use Rattle.rules.specs.Limits.{Limits}
 use Rattle.rules.specs.Lists.{◌∈◌, distinct, has, keep, rising_above}
-use Rattle.rules.specs.Sound.{ordered}
 use Rattle.rules.specs.State.{Manifest, State, epoch_of, free, kept, objects, occupied}
 use Rattle.rules.specs.Step.{mark, publish}
 use Rattle.rules.specs.Words.{stored}

@@ -11,7 +11,6 @@ use borrow.Author.Tests.{eqb-false, eq-eqb, not-true}
 use Rattle.rules.specs.declared.Object.{Object}
 use Rattle.rules.specs.Limits.{Limits}
 use Rattle.rules.specs.Lists.{◌∈◌, any, distinct, has, keep}
-use Rattle.rules.specs.Sound.{ordered, sound}
 use Rattle.rules.specs.State.{State, free, objects, occupied}
 use Rattle.rules.specs.Step.{place, put}
 use Rattle.rules.specs.Words.{stored}

@@ -21,7 +21,7 @@ use Rattle.rules.specs.Lists.{◌∈◌, conj, distinct, keep, none, rising_abov
 use Rattle.rules.specs.Request.{Ask, Asked, Request, Unreadable}
 use Rattle.rules.specs.Sound.{ordered, sound}
 use Rattle.rules.specs.State.{Manifest, State, epoch_of, free, fresh_in, kept, objects}
-use Rattle.rules.specs.Step.{accepts, act, commit, effect, fence, next, rows_of, settle, size}
+use Rattle.rules.specs.Step.{accepts, act, commit, effect, fence, next, rows_of, settle}
 use Rattle.rules.specs.Table.{row17, rows, well_formed}
 use Rattle.rules.specs.Words.{compacted, currency_of, is_live, live, of_currency, stored}
 use Rattle.rules.proofs.Accepted.{passed, positive, row13-clear, row8-clear, there}

@@ -8,12 +8,12 @@ use mathlib.Core.List.{List, [], ◌∷◌, map}
 use Prim.Native.Nat.{ℕ, ◌≤◌, ◌<◌}
 use native.Mathlib.Omega.{arith}
 use lib.Dec.{ltb, eqb}
-use borrow.Author.Tests.{ltb-true, eqb-true, ne_eqb}
+use borrow.Author.Tests.{ltb-true, eqb-true}
 use Rattle.rules.specs.declared.Answer.TheVariants.{Refused}
 use Rattle.rules.specs.declared.Kind.{Kind}
 use Rattle.rules.specs.declared.Kind.TheVariants.{Collect as COLLECT, Commit as COMMIT, Compact as COMPACT, Fence as FENCE, Hold as HOLD, List as LIST, Look as LOOK, Put as PUT, Release as RELEASE, Renew as RENEW}
 use Rattle.rules.specs.Limits.{Limits}
-use Rattle.rules.specs.Lists.{◌∈◌, none, rising_above}
+use Rattle.rules.specs.Lists.{◌∈◌, rising_above}
 use Rattle.rules.specs.Request.{Ask, Asked, Request, Unreadable}
 use Rattle.rules.specs.State.{State}
 use Rattle.rules.specs.Step.{accepts, alone, answers, code, granted, next, reply, rows_of, settle, verdict}

@@ -1,11 +1,8 @@
 -- `desk_exports::put_filled` meets its contract: after i turns the row's first i entries are in their places. Assumes nothing.
-use mathlib.Core.Path.{◌≡◌, refl, sym, ap, ◌∙◌}
-use mathlib.Core.List.{List}
-use Prim.Native.Nat.{ℕ, ◌+◌, ◌*◌, ◌-◌, ◌≤◌}
-use native.Mathlib.Numerals.{add-one}
-use native.Mathlib.Omega.{arith}
-use lib.ListN.{length, set, get_or, length-set}
-use Rattle.desk_exports.specs.Calls.{blank, put_filled}
+use mathlib.Core.Path.{◌≡◌}
+use Prim.Native.Nat.{◌-◌, ◌≤◌}
+use lib.ListN.{length}
+use Rattle.desk_exports.specs.Calls.{put_filled}
 use Rattle.desk_exports.proofs.put_filled.Given as goal
 
 abbrev pub invariant-loop-i : goal.invariant-loop-i

@@ -1,11 +1,10 @@
-use mathlib.Core.Path.{◌≡◌, refl, ap₂, ◌∙◌}
+use mathlib.Core.Path.{refl, ap₂}
 use mathlib.Core.List.{List}
-use Prim.Native.Nat.{ℕ, ◌-◌, ◌≤◌}
+use Prim.Native.Nat.{ℕ, ◌-◌}
 use native.Mathlib.Numerals.{add-one}
 use native.Mathlib.Omega.{arith}
-use lib.ListN.{length, set, length-set}
+use lib.ListN.{set, length-set}
 use Rattle.desk.specs.declared.Entry.{Entry}
-use Rattle.desk.specs.Card.{row_limit}
 use Rattle.desk_exports.specs.Calls.{blank, row_from}
 use Rattle.desk_exports.proofs.row_from.Goals as goal
 

@@ -1,13 +1,9 @@
 -- `desk_exports::row_from` meets its contract: after i turns the row is that of the card's first i entries. Assumes nothing.
-use mathlib.Core.Path.{◌≡◌, refl, ap₂, ◌∙◌}
-use mathlib.Core.List.{List}
-use Prim.Native.Nat.{ℕ, ◌-◌, ◌≤◌}
-use native.Mathlib.Numerals.{add-one}
-use native.Mathlib.Omega.{arith}
-use lib.ListN.{length, set, length-set}
-use Rattle.desk.specs.declared.Entry.{Entry}
+use mathlib.Core.Path.{◌≡◌}
+use Prim.Native.Nat.{◌-◌, ◌≤◌}
+use lib.ListN.{length}
 use Rattle.desk.specs.Card.{row_limit}
-use Rattle.desk_exports.specs.Calls.{blank, row_from}
+use Rattle.desk_exports.specs.Calls.{row_from}
 use Rattle.desk_exports.proofs.row_from.Given as goal
 
 abbrev pub invariant-loop-i : goal.invariant-loop-i

@@ -1,7 +1,6 @@
 -- `fields::four` meets its contract.
 -- Assumes nothing.
 use mathlib.Core.Path.{sym}
-use Prim.Native.Nat.{◌+◌}
 use native.Mathlib.Omega.{arith}
 use Rattle.fields.proofs.Bytes.{value_four}
 use Rattle.fields.proofs.four.Goals as goal

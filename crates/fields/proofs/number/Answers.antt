@@ -1,10 +1,8 @@
-use mathlib.Core.Path.{◌≡◌, refl, ap, ◌∙◌}
-use mathlib.Core.List.{List}
-use Prim.Native.Nat.{ℕ, ◌-◌, ◌≤◌}
+use mathlib.Core.Path.{refl, ap}
 use native.Mathlib.Omega.{arith}
-use lib.ListN.{length, get_or, take}
+use lib.ListN.{get_or, take}
 use lib.Seq.{take_all}
-use Rattle.fields.specs.Bytes.{value_from, value_of, kept64}
+use Rattle.fields.specs.Bytes.{value_from, value_of}
 use Rattle.fields.proofs.Bytes.{kept_byte, value_more, value-one}
 use Rattle.fields.proofs.number.Goals as goal
 

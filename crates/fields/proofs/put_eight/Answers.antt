@@ -1,7 +1,5 @@
 -- `fields::put_eight` meets its contract: the bytes are those of the definition.
 -- Assumes nothing.
-use native.Mathlib.Omega.{arith}
-use lib.ListN.{length-set}
 use Rattle.fields.specs.Bytes.{be}
 use Rattle.fields.proofs.Bytes.{eight_set}
 use Rattle.fields.proofs.put_eight.Goals as goal

@@ -1,7 +1,5 @@
 -- `fields::put_head` meets its contract: the tag stands first, then the length, then what stood there.
 -- Assumes nothing.
-use native.Mathlib.Omega.{arith}
-use lib.ListN.{length-set}
 use Rattle.fields.proofs.Fields.{over-head}
 use Rattle.fields.proofs.put_head.Goals as goal
 

@@ -1,11 +1,11 @@
-use mathlib.Core.Path.{◌≡◌, refl, ◌∙◌}
-use mathlib.Core.List.{◌++◌, append_assoc, append-nil}
-use Prim.Native.Nat.{◌+◌, ◌*◌, ◌-◌, ◌≤◌}
+use mathlib.Core.Path.{◌≡◌, ◌∙◌}
+use mathlib.Core.List.{append_assoc, append-nil}
+use Prim.Native.Nat.{◌+◌, ◌*◌, ◌-◌}
 use native.Mathlib.Omega.{arith}
-use lib.ListN.{length, get_or, take, drop}
+use lib.ListN.{length, get_or, take}
 use lib.Seq.{take_all, length-take-le}
 use borrow.Rule.Slice.PartMut.{same_len_mid, mid_len, post_of}
-use Rattle.fields.specs.Bytes.{be, words}
+use Rattle.fields.specs.Bytes.{be}
 use Rattle.fields.proofs.Bytes.{length-be, take_next, words-from, words_end}
 use Rattle.fields.proofs.put_words.Goals as goal
 

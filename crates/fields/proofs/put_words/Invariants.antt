@@ -1,14 +1,10 @@
 -- `fields::put_words` meets its contract. The invariant: what is written, and then the numbers from i on, are the bytes of all.
 -- Assumes nothing.
-use mathlib.Core.Path.{◌≡◌, refl, ◌∙◌}
-use mathlib.Core.List.{◌++◌, append_assoc, append-nil}
-use Prim.Native.Nat.{◌+◌, ◌*◌, ◌-◌, ◌≤◌}
-use native.Mathlib.Omega.{arith}
-use lib.ListN.{length, get_or, take, drop}
-use lib.Seq.{take_all, length-take-le}
-use borrow.Rule.Slice.PartMut.{same_len_mid, mid_len, post_of}
-use Rattle.fields.specs.Bytes.{be, words}
-use Rattle.fields.proofs.Bytes.{length-be, take_next, words-from, words_end}
+use mathlib.Core.Path.{◌≡◌}
+use mathlib.Core.List.{◌++◌}
+use Prim.Native.Nat.{◌*◌, ◌-◌, ◌≤◌}
+use lib.ListN.{length, take, drop}
+use Rattle.fields.specs.Bytes.{words}
 use Rattle.fields.proofs.put_words.Given as goal
 
 abbrev pub invariant-loop-i : goal.invariant-loop-i

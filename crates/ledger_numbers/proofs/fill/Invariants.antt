@@ -1,12 +1,9 @@
 -- `fill` meets its contract: the invariant: the numbers up to i lie over the start, and the rest is as it was.
 -- Assumes nothing.
-use mathlib.Core.Path.{◌≡◌, refl}
+use mathlib.Core.Path.{◌≡◌}
 use Prim.Native.Nat.{◌-◌, ◌≤◌}
-use native.Mathlib.Omega.{arith}
-use lib.ListN.{length, take, length-set}
-use lib.Seq.{take_all}
+use lib.ListN.{length, take}
 use Rattle.fields.specs.Fields.{over}
-use Rattle.ledger_numbers.proofs.Over.{over-next}
 use Rattle.ledger_numbers.proofs.fill.Given as goal
 
 abbrev pub invariant-loop-i : goal.invariant-loop-i

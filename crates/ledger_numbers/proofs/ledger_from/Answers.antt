@@ -1,6 +1,5 @@
 -- `ledger_from` meets its contract: the cases are those of the definition. Assumes nothing.
 use mathlib.Core.Path.{sym, ◌∙◌}
-use borrow.Author.Tests.{not-true, not-false}
 use Rattle.ledger_numbers.specs.Numbers.{ledger_from}
 use Rattle.ledger_numbers.proofs.ledger_from.Goals as goal
 

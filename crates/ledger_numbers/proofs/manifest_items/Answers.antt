@@ -1,10 +1,8 @@
-use mathlib.Core.Path.{◌≡◌, refl}
-use mathlib.Core.List.{◌++◌}
-use Prim.Native.Nat.{◌*◌, ◌-◌, ◌≤◌}
+use Prim.Native.Nat.{◌-◌}
 use native.Mathlib.Omega.{arith}
-use lib.ListN.{length, take, drop, length-set}
+use lib.ListN.{length-set}
 use Rattle.rules.specs.Limits.{limits, manifest_limit}
-use Rattle.ledger_numbers.specs.Numbers.{each, manifest_size, manifest_from}
+use Rattle.ledger_numbers.specs.Numbers.{manifest_size, manifest_from}
 use Rattle.ledger_numbers.proofs.Places.{each_next, each-done}
 use Rattle.ledger_numbers.proofs.manifest_items.Goals as goal
 

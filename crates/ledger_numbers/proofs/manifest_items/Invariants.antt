@@ -1,13 +1,11 @@
 -- `manifest_items` meets its contract: the invariant: what is filled, and then the places from i on, are the places of all.
 -- Assumes nothing.
-use mathlib.Core.Path.{◌≡◌, refl}
+use mathlib.Core.Path.{◌≡◌}
 use mathlib.Core.List.{◌++◌}
 use Prim.Native.Nat.{◌*◌, ◌-◌, ◌≤◌}
-use native.Mathlib.Omega.{arith}
-use lib.ListN.{length, take, drop, length-set}
+use lib.ListN.{length, take, drop}
 use Rattle.rules.specs.Limits.{limits, manifest_limit}
 use Rattle.ledger_numbers.specs.Numbers.{each, manifest_size, manifest_from}
-use Rattle.ledger_numbers.proofs.Places.{each_next, each-done}
 use Rattle.ledger_numbers.proofs.manifest_items.Given as goal
 
 abbrev pub invariant-loop-i : goal.invariant-loop-i

@@ -1,11 +1,8 @@
-use mathlib.Core.Path.{◌≡◌, refl, sym, ◌∙◌}
-use Prim.Native.Nat.{◌*◌, ◌-◌, ◌≤◌}
+use mathlib.Core.Path.{sym, ◌∙◌}
+use Prim.Native.Nat.{◌-◌}
 use native.Mathlib.Omega.{arith}
-use lib.ListN.{length, drop}
-use borrow.Author.Tests.{not-true, not-false}
 use Rattle.rules.specs.Limits.{limits}
-use Rattle.rules.specs.Lists.{conj}
-use Rattle.ledger_numbers.specs.Numbers.{each, object_size, can_be}
+use Rattle.ledger_numbers.specs.Numbers.{object_size, can_be}
 use Rattle.ledger_numbers.proofs.Places.{all_hit, all-miss, all-over}
 use Rattle.ledger_numbers.proofs.places_can_be.Goals as goal
 

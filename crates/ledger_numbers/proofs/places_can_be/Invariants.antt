@@ -1,14 +1,11 @@
 -- `places_can_be` meets its contract: the invariant: the places from i on pass where all do.
 -- Assumes nothing.
-use mathlib.Core.Path.{◌≡◌, refl, sym, ◌∙◌}
+use mathlib.Core.Path.{◌≡◌}
 use Prim.Native.Nat.{◌*◌, ◌-◌, ◌≤◌}
-use native.Mathlib.Omega.{arith}
-use lib.ListN.{length, drop}
-use borrow.Author.Tests.{not-true, not-false}
+use lib.ListN.{drop}
 use Rattle.rules.specs.Limits.{limits}
 use Rattle.rules.specs.Lists.{conj}
 use Rattle.ledger_numbers.specs.Numbers.{each, object_size, can_be}
-use Rattle.ledger_numbers.proofs.Places.{all_hit, all-miss, all-over}
 use Rattle.ledger_numbers.proofs.places_can_be.Given as goal
 
 abbrev pub invariant-loop-i : goal.invariant-loop-i

@@ -1,16 +1,11 @@
 -- `put_manifests` meets its contract: the invariant: what is written, and then the places from i on, are the numbers of all.
 -- Assumes nothing.
-use mathlib.Core.Path.{◌≡◌, refl, sym, ap, ◌∙◌}
-use mathlib.Core.List.{List, ◌++◌}
-use Prim.Native.Nat.{ℕ, ◌+◌, ◌*◌, ◌-◌, ◌≤◌}
-use native.Mathlib.Omega.{arith}
+use mathlib.Core.Path.{◌≡◌}
+use mathlib.Core.List.{◌++◌}
+use Prim.Native.Nat.{◌+◌, ◌*◌, ◌-◌, ◌≤◌}
 use lib.ListN.{length, take, drop}
-use borrow.Rule.Slice.PartMut.{same_len_mid, mid_len, mid_of, post_of}
-use Rattle.manifests.specs.Manifests.{past_end}
 use Rattle.rules.specs.Limits.{limits, manifest_limit}
-use Rattle.fields.specs.Fields.{over}
 use Rattle.ledger_numbers.specs.Numbers.{manifest_size, flat, manifest_numbers}
-use Rattle.ledger_numbers.proofs.Places.{flat-next, flat-done}
 use Rattle.ledger_numbers.proofs.put_manifests.Given as goal
 
 abbrev pub invariant-loop-i : goal.invariant-loop-i

@@ -1,13 +1,12 @@
-use mathlib.Core.Path.{◌≡◌, refl, sym, ap, ◌∙◌}
-use mathlib.Core.List.{List, ◌++◌}
-use Prim.Native.Nat.{ℕ, ◌+◌, ◌*◌, ◌-◌, ◌≤◌}
+use mathlib.Core.Path.{◌≡◌, sym, ap, ◌∙◌}
+use mathlib.Core.List.{List}
+use Prim.Native.Nat.{ℕ, ◌+◌, ◌*◌, ◌-◌}
 use native.Mathlib.Omega.{arith}
-use lib.ListN.{length, take, drop}
+use lib.ListN.{length}
 use borrow.Rule.Slice.PartMut.{same_len_mid, mid_len, mid_of, post_of}
 use Rattle.rules.specs.State.{free}
-use Rattle.rules.specs.Limits.{limits}
 use Rattle.fields.specs.Fields.{over}
-use Rattle.ledger_numbers.specs.Numbers.{object_size, flat, object_numbers}
+use Rattle.ledger_numbers.specs.Numbers.{object_size, object_numbers}
 use Rattle.ledger_numbers.proofs.Places.{flat-next, flat-done}
 use borrow.Author.Rules.{rules}
 use Rattle.ledger_numbers.proofs.put_objects.Goals as goal

@@ -1,16 +1,11 @@
 -- `put_objects` meets its contract: the invariant: what is written, and then the places from i on, are the numbers of all.
 -- Assumes nothing.
-use mathlib.Core.Path.{◌≡◌, refl, sym, ap, ◌∙◌}
-use mathlib.Core.List.{List, ◌++◌}
-use Prim.Native.Nat.{ℕ, ◌+◌, ◌*◌, ◌-◌, ◌≤◌}
-use native.Mathlib.Omega.{arith}
+use mathlib.Core.Path.{◌≡◌}
+use mathlib.Core.List.{◌++◌}
+use Prim.Native.Nat.{◌+◌, ◌*◌, ◌-◌, ◌≤◌}
 use lib.ListN.{length, take, drop}
-use borrow.Rule.Slice.PartMut.{same_len_mid, mid_len, mid_of, post_of}
-use Rattle.rules.specs.State.{free}
 use Rattle.rules.specs.Limits.{limits}
-use Rattle.fields.specs.Fields.{over}
 use Rattle.ledger_numbers.specs.Numbers.{object_size, flat, object_numbers}
-use Rattle.ledger_numbers.proofs.Places.{flat-next, flat-done}
 use Rattle.ledger_numbers.proofs.put_objects.Given as goal
 
 abbrev pub invariant-loop-i : goal.invariant-loop-i

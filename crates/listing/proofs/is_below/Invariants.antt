@@ -1,14 +1,9 @@
 -- `listing::is_below` meets its contract. The invariant: what is left is below exactly where all is.
 -- Assumes nothing.
-use mathlib.Core.Path.{◌≡◌, refl, sym, ◌∙◌}
-use mathlib.Core.List.{List, ◌∷◌}
-use Prim.Native.Nat.{ℕ, ◌+◌, ◌-◌, ◌≤◌}
-use native.Mathlib.Numerals.{add-one}
-use native.Mathlib.Omega.{arith}
-use lib.ListN.{length, get_or, drop, drop_of_length-le}
-use lib.Seq.{drop-cons}
+use mathlib.Core.Path.{◌≡◌}
+use Prim.Native.Nat.{◌-◌, ◌≤◌}
+use lib.ListN.{length, drop}
 use Rattle.listing.specs.Lines.{below}
-use Rattle.listing.proofs.Bytes.{below_less, below_more, below-same}
 use Rattle.listing.proofs.is_below.Given as goal
 
 abbrev pub invariant-loop-i : goal.invariant-loop-i

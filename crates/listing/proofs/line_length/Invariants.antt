@@ -1,13 +1,9 @@
 -- `listing::line_length` meets its contract. The invariant: the bytes so far, and the length of what is left, are the length of all.
 -- Assumes nothing.
 use mathlib.Core.Path.{◌≡◌}
-use Prim.Native.Nat.{suc, ◌+◌, ◌-◌, ◌≤◌}
-use native.Mathlib.Numerals.{add-one}
-use native.Mathlib.Omega.{arith}
-use lib.ListN.{length, drop, drop_of_length-le}
-use lib.Seq.{drop-cons}
+use Prim.Native.Nat.{◌+◌, ◌-◌, ◌≤◌}
+use lib.ListN.{length, drop}
 use Rattle.listing.specs.Turns.{line_length}
-use Rattle.listing.proofs.Cutting.{line_length-none, line_length_end, line_length_more}
 use Rattle.listing.proofs.line_length.Given as goal
 
 abbrev pub invariant-loop-i : goal.invariant-loop-i

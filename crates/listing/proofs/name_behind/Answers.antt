@@ -1,7 +1,6 @@
 -- `listing::name_behind` meets its contract: the test is that of the definition.
 -- Assumes nothing.
 use mathlib.Core.Path.{sym, ◌∙◌}
-use borrow.Author.Tests.{not-true, not-false}
 use Rattle.listing.specs.Turns.{name_behind}
 use Rattle.listing.proofs.name_behind.Goals as goal
 

@@ -5,8 +5,6 @@ use native.Mathlib.Omega.{arith}
 use lib.ListN.{length, take, drop, length-drop, drop_of_length-le}
 use lib.Seq.{drop-drop, take_all}
 use Rattle.listing.specs.declared.Listing.{Listing}
-use Rattle.listing.specs.Lines.{lines_of}
-use Rattle.listing.specs.Listing.{listing_of}
 use Rattle.listing.specs.Turns.{line_length, name_behind}
 use Rattle.listing.proofs.Cutting.{line_length_le, lines_none}
 use Rattle.listing.proofs.Telling.{tell, tell-torn, tell_bad, tell-next, tell-all, with_few}

@@ -1,10 +1,8 @@
 use mathlib.Core.Path.{refl, sym, ◌∙◌}
 use Prim.Native.Nat.{◌-◌}
-use borrow.Author.Tests.{not-true, not-false}
 use native.Mathlib.Omega.{arith}
-use lib.ListN.{length}
 use lib.Seq.{length-take-le}
-use Rattle.log_check.proofs.Loop.{Invariant, initially, Iteration, at_exit, some_read, read_within_lem, verdict-within, differs, logged-within, preserved}
+use Rattle.log_check.proofs.Loop.{initially, Iteration, at_exit, some_read, read_within_lem, verdict-within, differs, logged-within, preserved}
 use Rattle.log_check.proofs.check_log.Goals.{After-step_record-stepped}
 use Rattle.log_check.proofs.check_log.Goals as goal
 

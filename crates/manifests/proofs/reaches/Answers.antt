@@ -1,18 +1,18 @@
-use mathlib.Core.Path.{◌≡◌, refl, sym, ap, ◌∙◌}
+use mathlib.Core.Path.{refl, sym, ap, ◌∙◌}
 use mathlib.Core.Bool.{false}
 use mathlib.Core.List.{List, [], map}
 use Prim.Native.Nat.{ℕ, ◌-◌, ◌≤◌}
 use native.Mathlib.Omega.{arith}
-use lib.ListN.{length, take, get_or, length-set, length-take}
-use lib.Seq.{slice, take_all}
+use lib.ListN.{length, get_or, length-set, length-take}
+use lib.Seq.{take_all}
 use Rattle.rules.specs.Limits.{limits, manifest_limit}
 use Rattle.rules.specs.Lists.{any}
 use Rattle.arrays.specs.Arrays.{pad}
-use Rattle.arrays.proofs.Lists.{any_passed, Filled, filled_none, filled_next}
-use Rattle.manifests.specs.Search.{Search, search}
+use Rattle.arrays.proofs.Lists.{any_passed, filled_none, filled_next}
+use Rattle.manifests.specs.Search.{Search}
 use Rattle.manifests.specs.Reach.{lists_in}
 use Rattle.manifests.proofs.Searching.{search-by_halves}
-use Rattle.manifests.proofs.Reaching.{Searched, searched_read, searched_over, searched_none, search_empty, here, up, down, finds, counted, filled_empty, reach-none, reach-found, lists_long, list_at_lem, list-few, array_whole}
+use Rattle.manifests.proofs.Reaching.{searched_read, searched_over, searched_none, search_empty, here, up, down, finds, counted, filled_empty, reach-none, reach-found, lists_long, list_at_lem, list-few, array_whole}
 use Rattle.manifests.proofs.reaches.Goals as goal
 
 pub all-init : goal.all-init

@@ -1,20 +1,17 @@
 -- `reaches` meets its contract: no list passed has the object, until one does; and each has its count.
 -- Assumes nothing.
-use mathlib.Core.Path.{◌≡◌, refl, sym, ap, ◌∙◌}
+use mathlib.Core.Path.{◌≡◌}
 use mathlib.Core.Bool.{false}
-use mathlib.Core.List.{List, [], map}
-use Prim.Native.Nat.{ℕ, ◌-◌, ◌≤◌}
-use native.Mathlib.Omega.{arith}
-use lib.ListN.{length, take, get_or, length-set, length-take}
-use lib.Seq.{slice, take_all}
+use mathlib.Core.List.{[]}
+use Prim.Native.Nat.{◌-◌, ◌≤◌}
+use lib.ListN.{length, take, get_or}
+use lib.Seq.{slice}
 use Rattle.rules.specs.Limits.{limits, manifest_limit}
 use Rattle.rules.specs.Lists.{any}
-use Rattle.arrays.specs.Arrays.{pad}
-use Rattle.arrays.proofs.Lists.{any_passed, Filled, filled_none, filled_next}
-use Rattle.manifests.specs.Search.{Search, search}
+use Rattle.arrays.proofs.Lists.{Filled}
+use Rattle.manifests.specs.Search.{search}
 use Rattle.manifests.specs.Reach.{lists_in}
-use Rattle.manifests.proofs.Searching.{search-by_halves}
-use Rattle.manifests.proofs.Reaching.{Searched, searched_read, searched_over, searched_none, search_empty, here, up, down, finds, counted, filled_empty, reach-none, reach-found, lists_long, list_at_lem, list-few, array_whole}
+use Rattle.manifests.proofs.Reaching.{Searched, finds, counted}
 use Rattle.manifests.proofs.reaches.Given as goal
 
 abbrev pub invariant-loop-low : goal.invariant-loop-low

@@ -1,14 +1,10 @@
 -- `all_among` meets its contract: where the last one was found says only where the next is looked for first.
 -- Assumes nothing.
-use mathlib.Core.Path.{◌≡◌, sym, ap, ◌∙◌}
-use mathlib.Core.Bool.{false}
+use mathlib.Core.Path.{◌≡◌}
 use Prim.Native.Nat.{◌-◌, ◌≤◌}
-use native.Mathlib.Omega.{arith}
-use borrow.Author.Tests.{lt-ltb, le-ltb}
 use lib.ListN.{length}
-use lib.Seq.{slice, take_all}
+use lib.Seq.{slice}
 use Rattle.rules.specs.Lists.{all}
-use Rattle.arrays.proofs.Scan.{scan_next, scan_stop, scan_end, all_hit, all-miss}
 use Rattle.objects.specs.Objects.{among}
 use Rattle.objects.proofs.all_among.Given as goal
 

@@ -1,11 +1,11 @@
 use mathlib.Core.Path.{◌≡◌, sym, ap}
 use mathlib.Core.Bool.{true}
-use Prim.Native.Nat.{◌-◌, ◌≤◌}
+use Prim.Native.Nat.{◌-◌}
 use native.Mathlib.Omega.{arith}
 use borrow.Author.Tests.{eq-eqb, ne_eqb}
 use lib.Dec.{eqb}
 use lib.ListN.{length}
-use lib.Seq.{slice, take_all}
+use lib.Seq.{take_all}
 use Rattle.rules.specs.Lists.{any, has}
 use Rattle.arrays.proofs.Scan.{scan_next, scan_stop, scan_end, any_hit, any-miss}
 use Rattle.objects.proofs.contains.Goals as goal

@@ -1,15 +1,9 @@
 -- `place_behind` meets its contract: what is left from i on has the number where what is behind the place has it.
 -- Assumes nothing.
-use mathlib.Core.Path.{◌≡◌, refl, sym, ap, ◌∙◌}
-use Prim.Native.Nat.{suc, ◌-◌, ◌≤◌}
-use native.Mathlib.Numerals.{add-one}
-use native.Mathlib.Omega.{arith}
-use borrow.Author.Tests.{eq-eqb, ne_eqb, lt-ltb, le-ltb}
-use lib.Dec.{eqb}
-use lib.ListN.{length, drop, get_or, drop_of_length-le}
-use lib.Seq.{drop-cons}
-use Rattle.rules.specs.Lists.{any, has}
-use Rattle.arrays.proofs.Scan.{any_hit, any-miss}
+use mathlib.Core.Path.{◌≡◌}
+use Prim.Native.Nat.{◌-◌, ◌≤◌}
+use lib.ListN.{length, drop}
+use Rattle.rules.specs.Lists.{has}
 use Rattle.objects.proofs.place_behind.Given as goal
 
 abbrev pub invariant-loop-i : goal.invariant-loop-i

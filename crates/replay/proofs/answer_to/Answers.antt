@@ -4,7 +4,7 @@ use mathlib.Core.Path.{sym, ap, ◌∙◌}
 use Rattle.rules.specs.Typed.{request_of}
 use Rattle.records.specs.declared.StepRead.{StepRead}
 use Rattle.ledger.specs.Step.{judged}
-use Rattle.replay.proofs.Reading.{read-judged, refused-judged}
+use Rattle.replay.proofs.Reading.{read-judged}
 use Rattle.replay.proofs.answer_to.Goals as goal
 
 pub returns-in-Read : goal.returns-in-Read

@@ -1,7 +1,6 @@
 use Prim.Native.Nat.{◌-◌}
 use native.Mathlib.Omega.{arith}
-use lib.ListN.{length}
-use Rattle.replay.proofs.Running.{Going, at_start_lem, Turn, stops, some_read, read_within_lem, written-within, goes_again}
+use Rattle.replay.proofs.Running.{Turn, stops, some_read, read_within_lem, written-within, goes_again}
 use Rattle.replay.proofs.run.Goals.{After-step_record-stepped}
 use Rattle.replay.proofs.run.Goals as goal
 

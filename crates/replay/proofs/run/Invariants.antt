@@ -1,9 +1,8 @@
 -- `run` meets its contract: what is left says what all says, record by record.
 -- Assumes nothing.
 use Prim.Native.Nat.{◌-◌}
-use native.Mathlib.Omega.{arith}
 use lib.ListN.{length}
-use Rattle.replay.proofs.Running.{Going, at_start_lem, Turn, stops, some_read, read_within_lem, written-within, goes_again}
+use Rattle.replay.proofs.Running.{Going}
 use Rattle.replay.proofs.run.Given as goal
 
 abbrev pub invariant-loop-n : goal.invariant-loop-n

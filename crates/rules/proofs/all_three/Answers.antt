@@ -2,7 +2,6 @@
 -- Assumes nothing.
 use mathlib.Core.Path.{sym}
 use mathlib.Core.Bool.{and-true}
-use borrow.Author.Tests.{not-true, not-false}
 use Rattle.rules.specs.Lists.{conj}
 use Rattle.rules.proofs.all_three.Goals as goal
 

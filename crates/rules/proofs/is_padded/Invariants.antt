@@ -1,15 +1,11 @@
 -- `rules::is_padded` meets its contract. The invariant: whether the places from i on are 0 is what is asked.
 -- Assumes nothing.
-use mathlib.Core.Path.{◌≡◌, sym, ◌∙◌}
-use mathlib.Core.Bool.{◌&&◌}
-use Prim.Native.Nat.{ℕ, ◌+◌, ◌-◌, ◌≤◌}
-use native.Mathlib.Omega.{arith}
+use mathlib.Core.Path.{◌≡◌}
+use Prim.Native.Nat.{◌-◌, ◌≤◌}
 use lib.Dec.{eqb}
-use lib.ListN.{length, get_or, drop}
-use borrow.Author.Tests.{eq-eqb, ne_eqb}
+use lib.ListN.{length, drop}
 use Rattle.rules.specs.Lists.{all}
 use Rattle.rules.specs.Typed.{is_padded}
-use Rattle.rules.proofs.Typed.{all_from, all_end, padded-short, padded-from}
 use Rattle.rules.proofs.is_padded.Given as goal
 
 abbrev pub invariant-loop-i : goal.invariant-loop-i

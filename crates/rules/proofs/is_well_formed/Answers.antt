@@ -3,7 +3,6 @@
 use mathlib.Core.Path.{◌≡◌, sym, ◌∙◌}
 use mathlib.Core.Bool.{true}
 use lib.Seq.{length-take-le}
-use borrow.Author.Tests.{not-true, not-false}
 use Rattle.rules.specs.Typed.{is_padded}
 use Rattle.rules.proofs.Typed.{padded-room}
 use Rattle.rules.proofs.is_well_formed.Goals.{Else-not-is_padded}

@@ -4,13 +4,11 @@ use mathlib.Core.Path.{◌≡◌, sym, ap, ap₂, ◌∙◌}
 use mathlib.Core.Bool.{true}
 use mathlib.Core.List.{List}
 use Prim.Native.Nat.{ℕ}
-use native.Mathlib.Omega.{arith}
 use lib.ListN.{drop, get_or}
 use borrow.Author.Tests.{eq-eqb, ne_eqb, not-true, not-false}
 use Rattle.records.specs.Found.{is_whole, fields_in, found_by, placed_all}
 use Rattle.records.specs.Walk.{walk}
 use Rattle.records.proofs.Places.{tail}
-use Rattle.records.proofs.Fronts.{whole_room}
 use Rattle.records.proofs.Tables.{fields_in_lem}
 use Rattle.sheets.specs.Sheets.{sheet_tag, sheet_fields, blank_sheet, sheet_of_walk, decode_sheet}
 use Rattle.sheets.proofs.Reading.{decode-torn, decode-other, decode-whole, fields_placed, sheet_placed}

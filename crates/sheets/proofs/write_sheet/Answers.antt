@@ -1,12 +1,10 @@
 -- `sheets::write_sheet` meets its contract: a sheet that is well formed is written as its record, where there is room for it. Assumes nothing.
-use mathlib.Core.Path.{refl, sym, ◌∙◌}
-use mathlib.Core.List.{[]}
+use mathlib.Core.Path.{sym, ◌∙◌}
 use native.Mathlib.Omega.{arith}
 use lib.Dec.{lit≤}
 use lib.ListN.{length}
-use borrow.Author.Tests.{lt-ltb, not-true, not-false}
-use Rattle.records.proofs.Tables.{record_written}
-use Rattle.sheets.specs.Sheets.{sheet_tag, sheet_fields, encode_sheet}
+use borrow.Author.Tests.{lt-ltb}
+use Rattle.sheets.specs.Sheets.{encode_sheet}
 use Rattle.sheets.proofs.Reading.{fields_placed}
 use Rattle.sheets.proofs.RoundTrip.{sheet_round_trip}
 use Rattle.sheets.proofs.write_sheet.Goals as goal

@@ -2,15 +2,13 @@
 -- Assumes nothing.
 use mathlib.Core.Path.{◌≡◌, sym, ap, ap₂, ◌∙◌}
 use mathlib.Core.Bool.{true}
-use native.Mathlib.Omega.{arith}
 use lib.ListN.{drop, get_or}
-use borrow.Author.Tests.{eq-eqb, ne_eqb, not-true, not-false}
+use borrow.Author.Tests.{eq-eqb, ne_eqb}
 use Rattle.rules.specs.declared.Answer.{Answer}
 use Rattle.records.specs.Found.{is_whole, fields_in, placed_all}
 use Rattle.records.specs.Walk.{Walked, walk}
 use Rattle.verdicts.specs.Verdicts.{verdict_tag, verdict_fields, reply_of_walk, verdict_read}
 use Rattle.records.proofs.Places.{tail}
-use Rattle.records.proofs.Fronts.{whole_room}
 use Rattle.records.proofs.Tables.{fields_in_lem}
 use Rattle.verdicts.proofs.Tables.{verdict_placed, reply_placed}
 use Rattle.verdicts.proofs.Replies.{decode-torn, decode-other, decode-whole}

@@ -6,9 +6,9 @@ use mathlib.Core.List.{List}
 use Prim.Native.Nat.{ℕ}
 use native.Mathlib.Omega.{arith}
 use lib.Dec.{eqb}
-use lib.ListN.{length, drop, get_or, replicate, length-append, length-drop}
+use lib.ListN.{length, drop, get_or, replicate}
 use lib.Seq.{take_at, length-take-le}
-use borrow.Author.Tests.{not-true, not-false}
+use borrow.Author.Tests.{not-false}
 use Rattle.fields.specs.Bytes.{words_of}
 use Rattle.fields.proofs.Bytes.{length-words_of}
 use Rattle.rules.specs.Limits.{limits}

@@ -1,17 +1,14 @@
 -- `verdicts::write_verdict` meets its contract: a reply that is well formed is written as its record.
 -- Assumes nothing.
-use mathlib.Core.Path.{◌≡◌, refl, sym, ◌∙◌}
+use mathlib.Core.Path.{◌≡◌, sym, ◌∙◌}
 use mathlib.Core.Bool.{true}
 use Prim.Native.Nat.{◌≤◌}
 use native.Mathlib.Omega.{arith}
 use lib.ListN.{length, length-take}
 use lib.Seq.{length-take-le}
-use borrow.Author.Tests.{not-true, not-false}
 use Rattle.rules.specs.Limits.{limits}
-use Rattle.rules.specs.Typed.{is_padded, objects_of}
+use Rattle.rules.specs.Typed.{is_padded}
 use Rattle.rules.proofs.Typed.{padded-room}
-use Rattle.verdicts.specs.Verdicts.{verdict_tag, verdict_fields}
-use Rattle.records.proofs.Tables.{record_written}
 use Rattle.verdicts.proofs.Tables.{verdict_placed}
 use Rattle.verdicts.proofs.write_verdict.Goals.{Else-not-is_padded}
 use borrow.Author.Rules.{rules}

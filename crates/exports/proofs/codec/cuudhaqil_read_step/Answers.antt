@@ -1,7 +1,6 @@
 -- `exports::codec::cuudhaqil_read_step` meets its contract: the cases are those of the definition.
 -- Assumes nothing.
-use mathlib.Core.Path.{◌≡◌, sym}
-use native.Mathlib.Omega.{arith}
+use mathlib.Core.Path.{sym}
 use lib.ListN.{length}
 use borrow.Author.Tests.{lt-ltb, le-ltb}
 use Rattle.rules.specs.Limits.{limits}

@@ -2,7 +2,6 @@
 -- Assumes nothing.
 use mathlib.Core.Path.{◌≡◌, sym, ap, ◌∙◌}
 use native.Mathlib.Omega.{arith}
-use Prim.Native.Nat.{ℕ}
 use lib.ListN.{length, take, get_or, replicate}
 use lib.Seq.{length-take-le}
 use Rattle.ledger_numbers.proofs.Over.{over-all}

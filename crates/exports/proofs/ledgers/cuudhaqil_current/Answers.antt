@@ -1,15 +1,11 @@
 -- `exports::ledgers::cuudhaqil_current` meets its contract: the cases are those of the definition. Assumes nothing.
 use mathlib.Core.Path.{sym, ap, ◌∙◌}
-use native.Mathlib.Omega.{arith}
 use lib.ListN.{length}
-use borrow.Author.Tests.{lt-ltb, le-ltb, not-true, not-false}
-use Rattle.fields.specs.Fields.{over}
-use Rattle.manifests.specs.declared.KeptManifest.{KeptManifest}
-use Rattle.ledger.specs.declared.Ledger.{Ledger}
+use borrow.Author.Tests.{lt-ltb, le-ltb}
 use Rattle.ledger.specs.Ledger.{is_sound}
 use Rattle.ledger.proofs.View.{sound_parts}
 use Rattle.ledger_numbers.specs.Numbers.{ledger_size}
-use Rattle.exports.specs.Ledgers.{current_numbers, current}
+use Rattle.exports.specs.Ledgers.{current}
 use Rattle.exports.proofs.ledgers.cuudhaqil_current.Goals as goal
 
 pub returns-then-ledger-lt-LEDGER : goal.returns-then-ledger-lt-LEDGER

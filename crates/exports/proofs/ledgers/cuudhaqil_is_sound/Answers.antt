@@ -1,6 +1,5 @@
 -- `exports::ledgers::cuudhaqil_is_sound` meets its contract: the cases are those of the definition. Assumes nothing.
 use mathlib.Core.Path.{sym, ap, ◌∙◌}
-use native.Mathlib.Omega.{arith}
 use lib.ListN.{length}
 use borrow.Author.Tests.{lt-ltb, le-ltb}
 use Rattle.ledger.specs.Ledger.{is_sound}

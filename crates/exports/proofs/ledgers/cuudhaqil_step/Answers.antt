@@ -1,7 +1,6 @@
 -- `exports::ledgers::cuudhaqil_step` meets its contract: the cases are those of the definition.
 -- Assumes nothing.
 use mathlib.Core.Path.{sym, ap, ◌∙◌}
-use native.Mathlib.Omega.{arith}
 use lib.ListN.{length}
 use borrow.Author.Tests.{lt-ltb, le-ltb}
 use Rattle.rules.specs.Limits.{limits}

@@ -1,20 +1,15 @@
 -- `Holds::all_live` meets its contract.
 -- Assumes nothing.
-use mathlib.Core.Path.{◌≡◌, refl, sym, ◌∙◌}
-use mathlib.Core.Bool.{Bool, false}
+use mathlib.Core.Path.{◌≡◌}
+use mathlib.Core.Bool.{Bool}
 use mathlib.Core.List.{List}
 use Prim.Native.Nat.{ℕ, ◌-◌, ◌≤◌}
-use native.Mathlib.Omega.{arith}
-use borrow.Author.Tests.{not-true, not-false}
 use lib.ListN.{length, take}
 use lib.Seq.{slice}
 use Rattle.rules.specs.declared.Hold.{Hold}
 use Rattle.rules.specs.Limits.{limits}
 use Rattle.rules.specs.Lists.{all}
 use Rattle.rules.specs.Words.{live}
-use Rattle.arrays.proofs.Scan.{scan_next, scan_stop, scan_end, all_hit, all-miss}
-use Rattle.holds.specs.Holds.{no_hold}
-use Rattle.holds.proofs.Places.{items_long}
 use Rattle.holds.proofs.Holds.all_live.Given as goal
 
 -- what is asked of the holds

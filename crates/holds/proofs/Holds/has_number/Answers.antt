@@ -1,18 +1,11 @@
-use mathlib.Core.Path.{◌≡◌, refl, sym}
-use mathlib.Core.Bool.{Bool, true}
-use mathlib.Core.List.{List}
-use Prim.Native.Nat.{ℕ, ◌-◌, ◌≤◌}
+use mathlib.Core.Path.{◌≡◌, sym}
+use mathlib.Core.Bool.{true}
+use Prim.Native.Nat.{◌-◌}
 use native.Mathlib.Omega.{arith}
 use borrow.Author.Tests.{eq-eqb, ne_eqb}
-use lib.Dec.{eqb}
-use lib.ListN.{length, take}
-use lib.Seq.{slice}
-use Rattle.rules.specs.declared.Hold.{Hold}
-use Rattle.rules.specs.Limits.{limits}
 use Rattle.rules.specs.Lists.{any}
 use Rattle.arrays.proofs.Scan.{scan_next, scan_stop, scan_end, any_hit, any-miss}
 use Rattle.holds.specs.Holds.{no_hold}
-use Rattle.holds.proofs.Places.{items_long}
 use Rattle.holds.proofs.Holds.has_number.Invariants.{asked}
 use Rattle.holds.proofs.Holds.has_number.Goals as goal
 

@@ -1,16 +1,14 @@
 use mathlib.Core.Path.{◌≡◌, sym, ap, ◌∙◌, subst}
-use mathlib.Core.Logic.{⊎_elim}
-use Prim.Native.Nat.{ℕ, ◌+◌, ◌-◌, ◌≤◌, ◌<◌}
+use Prim.Native.Nat.{ℕ, ◌+◌, ◌-◌}
 use native.Mathlib.Omega.{arith}
 use borrow.Author.Tests.{lt-ltb, le-ltb}
 use lib.ListN.{length, set}
 use lib.Seq.{length-take-le}
-use Rattle.rules.specs.Limits.{limits}
 use Rattle.arrays.specs.Arrays.{pad, inserted_by}
-use Rattle.arrays.proofs.Sorting.{Inserting, length_inserted, insert_start, insert_swap, insert_stay, insert-last}
+use Rattle.arrays.proofs.Sorting.{Inserting, length_inserted, insert_swap, insert_stay, insert-last}
 use Rattle.holds.specs.declared.Holds.{Holds}
 use Rattle.holds.specs.Holds.{no_hold, holds_of}
-use Rattle.holds.proofs.Places.{items_long, laid_out, earlier, inserted_rising}
+use Rattle.holds.proofs.Places.{laid_out, earlier, inserted_rising}
 use Rattle.holds.proofs.Holds.insert.Goals.{else-x-y, then-x-y}
 use Rattle.holds.proofs.Holds.insert.Goals as goal
 

@@ -1,11 +1,11 @@
 use mathlib.Core.Path.{◌≡◌, sym, ap, ◌∙◌}
 use mathlib.Core.Bool.{false}
 use mathlib.Core.List.{List}
-use Prim.Native.Nat.{◌-◌, ◌≤◌}
+use Prim.Native.Nat.{◌-◌}
 use native.Mathlib.Omega.{arith}
-use borrow.Author.Tests.{lt-leb, le-leb, not-true, not-false}
-use lib.ListN.{length, drop}
-use lib.Seq.{slice, take_all}
+use borrow.Author.Tests.{lt-leb, le-leb}
+use lib.ListN.{drop}
+use lib.Seq.{take_all}
 use Rattle.rules.specs.declared.Hold.{Hold}
 use Rattle.rules.specs.Lists.{all}
 use Rattle.arrays.proofs.Scan.{scan_next, scan_stop, scan_end, all_hit, all-miss}

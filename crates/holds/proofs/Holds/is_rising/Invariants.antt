@@ -1,19 +1,15 @@
 -- `Holds::is_rising` meets its contract.
 -- Assumes nothing.
-use mathlib.Core.Path.{◌≡◌, refl}
-use mathlib.Core.Bool.{Bool, false}
+use mathlib.Core.Path.{◌≡◌}
+use mathlib.Core.Bool.{Bool}
 use mathlib.Core.List.{List}
 use Prim.Native.Nat.{ℕ, ◌-◌, ◌≤◌}
-use native.Mathlib.Omega.{arith}
-use borrow.Author.Tests.{lt-ltb, le-ltb}
 use lib.ListN.{length, take}
 use lib.Seq.{slice}
 use Rattle.rules.specs.declared.Hold.{Hold}
 use Rattle.rules.specs.Limits.{limits}
 use Rattle.rules.specs.Lists.{rising_above}
-use Rattle.arrays.proofs.Scan.{scan_next, scan_stop, scan_end, rising_hit, rising-miss}
-use Rattle.holds.specs.Holds.{no_hold, numbers}
-use Rattle.holds.proofs.Places.{items_long}
+use Rattle.holds.specs.Holds.{numbers}
 use Rattle.holds.proofs.Holds.is_rising.Given as goal
 
 -- what is asked of the holds behind one of that number

@@ -1,11 +1,8 @@
-use mathlib.Core.Path.{◌≡◌, refl, sym, ◌∙◌, subst}
-use mathlib.Core.Logic.{⊎_elim}
-use Prim.Native.Nat.{ℕ, ◌-◌, ◌≤◌}
+use mathlib.Core.Path.{refl, sym, ◌∙◌}
+use Prim.Native.Nat.{◌-◌, ◌≤◌}
 use native.Mathlib.Omega.{arith}
-use lib.ListN.{length}
-use Rattle.rules.specs.Limits.{limits}
 use Rattle.rules.specs.Words.{live}
-use Rattle.arrays.proofs.Lists.{Packed, packed_none, packed_few, packed_kept, packed_left}
+use Rattle.arrays.proofs.Lists.{packed_none, packed_few, packed_kept, packed_left}
 use Rattle.holds.specs.Holds.{no_hold}
 use Rattle.holds.proofs.Places.{items_long, none_items}
 use Rattle.holds.proofs.Holds.live.Goals.{Then-is_live}

@@ -1,15 +1,12 @@
 -- `Holds::live` meets its contract: the array is the layout of the live holds among those passed.
 -- Assumes nothing.
-use mathlib.Core.Path.{◌≡◌, refl, sym, ◌∙◌, subst}
-use mathlib.Core.Logic.{⊎_elim}
-use Prim.Native.Nat.{ℕ, ◌-◌, ◌≤◌}
-use native.Mathlib.Omega.{arith}
+use mathlib.Core.Path.{◌≡◌}
+use Prim.Native.Nat.{◌-◌, ◌≤◌}
 use lib.ListN.{length}
 use Rattle.rules.specs.Limits.{limits}
 use Rattle.rules.specs.Words.{live}
-use Rattle.arrays.proofs.Lists.{Packed, packed_none, packed_few, packed_kept, packed_left}
+use Rattle.arrays.proofs.Lists.{Packed}
 use Rattle.holds.specs.Holds.{no_hold}
-use Rattle.holds.proofs.Places.{items_long, none_items}
 use Rattle.holds.proofs.Holds.live.Given as goal
 
 abbrev pub invariant-loop-i : goal.invariant-loop-i

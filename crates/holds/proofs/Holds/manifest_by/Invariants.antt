@@ -1,18 +1,13 @@
 -- `Holds::manifest_by` meets its contract.
 -- Assumes nothing.
-use mathlib.Core.Path.{◌≡◌, refl, sym}
+use mathlib.Core.Path.{◌≡◌}
 use mathlib.Core.List.{List}
 use Prim.Native.Nat.{ℕ, ◌-◌, ◌≤◌}
-use native.Mathlib.Omega.{arith}
-use borrow.Author.Tests.{eq-eqb, ne_eqb}
 use lib.ListN.{length, take}
 use lib.Seq.{slice}
 use Rattle.rules.specs.declared.Hold.{Hold}
 use Rattle.rules.specs.Limits.{limits}
 use Rattle.rules.specs.Lists.{lookup}
-use Rattle.arrays.proofs.Scan.{scan_next, scan_stop, scan_end, lookup_hit, lookup-miss}
-use Rattle.holds.specs.Holds.{no_hold}
-use Rattle.holds.proofs.Places.{items_long}
 use Rattle.holds.proofs.Holds.manifest_by.Given as goal
 
 -- what is asked of the holds

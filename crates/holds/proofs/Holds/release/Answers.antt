@@ -1,13 +1,10 @@
-use mathlib.Core.Path.{◌≡◌, refl, ap, subst}
-use mathlib.Core.Logic.{⊎_elim}
-use Prim.Native.Nat.{ℕ, ◌-◌, ◌≤◌}
+use mathlib.Core.Path.{refl, ap}
+use Prim.Native.Nat.{◌-◌, ◌≤◌}
 use native.Mathlib.Omega.{arith}
 use mathlib.Core.Bool.{not}
 use borrow.Author.Tests.{eq-eqb, ne_eqb}
-use lib.ListN.{length}
-use Rattle.rules.specs.Limits.{limits}
 use Rattle.rules.specs.Step.{other}
-use Rattle.arrays.proofs.Lists.{Packed, packed_none, packed_few, packed_kept, packed_left}
+use Rattle.arrays.proofs.Lists.{packed_none, packed_few, packed_kept, packed_left}
 use Rattle.holds.specs.Holds.{no_hold}
 use Rattle.holds.proofs.Places.{items_long, none_items}
 use Rattle.holds.proofs.Holds.release.Goals.{Then-h-number}

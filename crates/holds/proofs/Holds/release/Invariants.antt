@@ -1,17 +1,12 @@
 -- `Holds::release` meets its contract: the array is the layout of the other holds among those passed.
 -- Assumes nothing.
-use mathlib.Core.Path.{◌≡◌, refl, ap, subst}
-use mathlib.Core.Logic.{⊎_elim}
-use Prim.Native.Nat.{ℕ, ◌-◌, ◌≤◌}
-use native.Mathlib.Omega.{arith}
-use mathlib.Core.Bool.{not}
-use borrow.Author.Tests.{eq-eqb, ne_eqb}
+use mathlib.Core.Path.{◌≡◌}
+use Prim.Native.Nat.{◌-◌, ◌≤◌}
 use lib.ListN.{length}
 use Rattle.rules.specs.Limits.{limits}
 use Rattle.rules.specs.Step.{other}
-use Rattle.arrays.proofs.Lists.{Packed, packed_none, packed_few, packed_kept, packed_left}
+use Rattle.arrays.proofs.Lists.{Packed}
 use Rattle.holds.specs.Holds.{no_hold}
-use Rattle.holds.proofs.Places.{items_long, none_items}
 use Rattle.holds.proofs.Holds.release.Given as goal
 
 abbrev pub invariant-loop-i : goal.invariant-loop-i

@@ -1,12 +1,7 @@
-use mathlib.Core.Path.{◌≡◌, refl, subst}
-use Prim.Native.Nat.{ℕ, ◌-◌, ◌≤◌}
+use Prim.Native.Nat.{◌-◌}
 use native.Mathlib.Omega.{arith}
-use lib.ListN.{length}
-use Rattle.rules.specs.Limits.{limits}
-use Rattle.rules.specs.Step.{renewed}
-use Rattle.arrays.proofs.Lists.{Filled, filled_none, filled_next, filled-count}
+use Rattle.arrays.proofs.Lists.{filled_next}
 use Rattle.holds.specs.Holds.{no_hold}
-use Rattle.holds.proofs.Places.{items_long, none_items}
 use Rattle.holds.proofs.Holds.renew.Goals as goal
 
 pub loop-i-preserved : goal.loop-i-preserved

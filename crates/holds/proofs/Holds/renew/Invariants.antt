@@ -1,14 +1,12 @@
 -- `Holds::renew` meets its contract: the array is the layout of the holds passed, each renewed or as it was.
 -- Assumes nothing.
-use mathlib.Core.Path.{◌≡◌, refl, subst}
-use Prim.Native.Nat.{ℕ, ◌-◌, ◌≤◌}
-use native.Mathlib.Omega.{arith}
+use mathlib.Core.Path.{◌≡◌}
+use Prim.Native.Nat.{◌-◌, ◌≤◌}
 use lib.ListN.{length}
 use Rattle.rules.specs.Limits.{limits}
 use Rattle.rules.specs.Step.{renewed}
-use Rattle.arrays.proofs.Lists.{Filled, filled_none, filled_next, filled-count}
+use Rattle.arrays.proofs.Lists.{Filled}
 use Rattle.holds.specs.Holds.{no_hold}
-use Rattle.holds.proofs.Places.{items_long, none_items}
 use Rattle.holds.proofs.Holds.renew.Given as goal
 
 abbrev pub invariant-loop-i : goal.invariant-loop-i

@@ -3,7 +3,7 @@ use mathlib.Core.Path.{refl, sym}
 use Prim.Native.Nat.{◌≤◌}
 use native.Mathlib.Omega.{arith}
 use lib.ListN.{length}
-use lib.Seq.{length-take-le, length_front}
+use lib.Seq.{length-take-le}
 use Rattle.image.specs.Format.{hold_size}
 use Rattle.image.specs.Rows.{total}
 use Rattle.image.specs.Image.{hold_bytes}

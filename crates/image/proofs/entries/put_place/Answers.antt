@@ -3,7 +3,7 @@ use mathlib.Core.Path.{◌≡◌, refl, sym, ap, ◌∙◌}
 use Prim.Native.Nat.{◌≤◌}
 use native.Mathlib.Omega.{arith}
 use lib.ListN.{length}
-use lib.Seq.{length-take-le, length_front}
+use lib.Seq.{length-take-le}
 use Rattle.image.specs.Rows.{total, row_of}
 use Rattle.image.specs.Format.{object_row, object_cells, object_size}
 use Rattle.image.specs.Image.{place_bytes}

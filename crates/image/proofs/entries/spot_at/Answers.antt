@@ -2,7 +2,6 @@
 use mathlib.Core.Path.{◌≡◌, sym, ap, ◌∙◌}
 use mathlib.Core.Bool.{true}
 use native.Mathlib.Omega.{arith}
-use borrow.Author.Tests.{not-true, not-false}
 use Rattle.fields.specs.declared.Head.TheVariants.{Holds}
 use Rattle.image.specs.Rows.{Cells, Row, total, present, row_head, row_at}
 use Rattle.image.specs.Format.{object_row, is_object_at, object_from}

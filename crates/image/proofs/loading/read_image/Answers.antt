@@ -1,14 +1,11 @@
 -- `image::loading::read_image` meets its contract: the tests are those of the definition. Assumes nothing.
 use mathlib.Core.Path.{◌≡◌, sym, ap, ◌∙◌}
 use mathlib.Core.Bool.{true}
-use Prim.Native.Nat.{◌≤◌}
-use native.Mathlib.Omega.{arith}
 use lib.Dec.{eqb}
 use lib.ListN.{length, drop}
 use borrow.Author.Tests.{not-true, not-false}
 use Rattle.records.specs.Found.{is_whole}
 use Rattle.records.proofs.Places.{tail}
-use Rattle.records.proofs.Fronts.{whole_room}
 use Rattle.ledger.specs.Ledger.{is_sound}
 use Rattle.image.specs.declared.RowsRead.{RowsRead}
 use Rattle.image.specs.declared.Reading.TheVariants.{Read}

@@ -1,11 +1,11 @@
 use mathlib.Core.Path.{◌≡◌, refl, ap, ◌∙◌}
-use Prim.Native.Nat.{◌-◌, ◌≤◌}
+use Prim.Native.Nat.{◌-◌}
 use native.Mathlib.Omega.{arith}
-use lib.ListN.{length, drop, replicate, length-set, length-drop}
-use Rattle.rules.specs.Limits.{limits, word_count}
+use lib.ListN.{drop, replicate, length-set}
+use Rattle.rules.specs.Limits.{limits}
 use Rattle.records.proofs.Places.{tail}
-use Rattle.image.specs.Reading.{spot_at, spot_size}
-use Rattle.image.proofs.Filling.{Places, places-none, places-next, places-full, zero-words}
+use Rattle.image.specs.Reading.{spot_at}
+use Rattle.image.proofs.Filling.{places-none, places-next, places-full, zero-words}
 use Rattle.image.proofs.Spots.{spot_room}
 use Rattle.image.proofs.loading.read_objects.Goals.{After-spot_at-spot}
 use borrow.Author.Rules.{rules}

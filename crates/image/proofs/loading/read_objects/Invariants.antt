@@ -1,14 +1,10 @@
 -- `image::loading::read_objects` meets its contract: what was read and what is left say what all says (`Places`).
 -- Assumes nothing.
-use mathlib.Core.Path.{◌≡◌, refl, ap, ◌∙◌}
+use mathlib.Core.Path.{◌≡◌}
 use Prim.Native.Nat.{◌-◌, ◌≤◌}
-use native.Mathlib.Omega.{arith}
-use lib.ListN.{length, drop, replicate, length-set, length-drop}
+use lib.ListN.{length}
 use Rattle.rules.specs.Limits.{limits, word_count}
-use Rattle.records.proofs.Places.{tail}
-use Rattle.image.specs.Reading.{spot_at, spot_size}
-use Rattle.image.proofs.Filling.{Places, places-none, places-next, places-full, zero-words}
-use Rattle.image.proofs.Spots.{spot_room}
+use Rattle.image.proofs.Filling.{Places}
 use Rattle.image.proofs.loading.read_objects.Given as goal
 
 abbrev pub invariant-loop-p : goal.invariant-loop-p

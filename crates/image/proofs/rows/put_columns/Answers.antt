@@ -1,14 +1,14 @@
-use mathlib.Core.Path.{◌≡◌, refl, ◌∙◌}
-use mathlib.Core.List.{◌++◌, append_assoc, append-nil}
-use Prim.Native.Nat.{◌+◌, ◌-◌, ◌≤◌}
+use mathlib.Core.Path.{◌≡◌, ◌∙◌}
+use mathlib.Core.List.{append_assoc, append-nil}
+use Prim.Native.Nat.{◌+◌, ◌-◌}
 use native.Mathlib.Omega.{arith}
-use lib.ListN.{length, get_or, take, drop}
+use lib.ListN.{length, get_or, drop}
 use lib.Seq.{take_all}
 use borrow.Rule.Slice.PartMut.{same_len_mid, mid_len}
 use Rattle.fields.specs.Bytes.{be}
 use Rattle.fields.proofs.Bytes.{length-be}
 use Rattle.records.proofs.Pieces.{take_part}
-use Rattle.image.specs.Rows.{bare, total}
+use Rattle.image.specs.Rows.{total}
 use Rattle.image.proofs.RowLaws.{bare-from, bare_end, total-from, total_end}
 use Rattle.image.proofs.rows.put_columns.Goals.{In-loop-i}
 use Rattle.image.proofs.rows.put_columns.Goals as goal

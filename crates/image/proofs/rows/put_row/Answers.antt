@@ -1,11 +1,10 @@
 -- `image::rows::put_row` meets its contract: the head, the numbers behind it, and the names behind those.
 -- Assumes nothing.
-use mathlib.Core.Path.{◌≡◌, refl, ◌∙◌}
+use mathlib.Core.Path.{refl, ◌∙◌}
 use mathlib.Core.List.{List, ◌++◌}
 use Prim.Native.Nat.{ℕ, ◌+◌, ◌-◌}
 use native.Mathlib.Omega.{arith}
-use lib.ListN.{length, take, drop, length-take, length-drop}
-use borrow.Rule.Slice.PartMut.{same_len_mid, mid_len}
+use lib.ListN.{take, drop}
 use Rattle.fields.specs.Bytes.{words}
 use Rattle.fields.proofs.Bytes.{length-words}
 use Rattle.image.specs.Rows.{bare}

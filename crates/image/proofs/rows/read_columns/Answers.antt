@@ -1,11 +1,11 @@
-use mathlib.Core.Path.{◌≡◌, refl}
+use mathlib.Core.Path.{◌≡◌}
 use mathlib.Core.List.{[], ◌∷◌, ◌++◌, append-nil}
 use Prim.Native.Nat.{◌+◌, ◌-◌, ◌≤◌}
 use native.Mathlib.Numerals.{add-one}
 use native.Mathlib.Omega.{arith}
 use lib.ListN.{length, get_or, take, drop, set, length-set}
 use lib.Seq.{take-suc-set, take_all, append_snoc, drop-drop}
-use Rattle.image.specs.Rows.{total, numbers_of}
+use Rattle.image.specs.Rows.{total}
 use Rattle.image.proofs.RowLaws.{numbers-from, numbers_end, total-from}
 use Rattle.image.proofs.rows.read_columns.Goals.{In-loop-i}
 use Rattle.image.proofs.rows.read_columns.Goals as goal

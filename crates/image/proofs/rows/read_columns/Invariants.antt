@@ -1,14 +1,10 @@
 -- `image::rows::read_columns` meets its contract: what is filled, and then the numbers of the bytes from here on, are the numbers of all.
 -- Assumes nothing.
-use mathlib.Core.Path.{◌≡◌, refl}
-use mathlib.Core.List.{[], ◌∷◌, ◌++◌, append-nil}
+use mathlib.Core.Path.{◌≡◌}
+use mathlib.Core.List.{◌++◌}
 use Prim.Native.Nat.{◌+◌, ◌-◌, ◌≤◌}
-use native.Mathlib.Numerals.{add-one}
-use native.Mathlib.Omega.{arith}
-use lib.ListN.{length, get_or, take, drop, set, length-set}
-use lib.Seq.{take-suc-set, take_all, append_snoc, drop-drop}
+use lib.ListN.{length, take, drop}
 use Rattle.image.specs.Rows.{total, numbers_of}
-use Rattle.image.proofs.RowLaws.{numbers-from, numbers_end, total-from}
 use Rattle.image.proofs.rows.read_columns.Given as goal
 
 abbrev pub invariant-loop-i : goal.invariant-loop-i

@@ -1,14 +1,13 @@
 use mathlib.Core.Path.{◌≡◌, refl, sym, ap, ◌∙◌}
-use Prim.Native.Nat.{◌+◌, ◌-◌, ◌≤◌}
+use Prim.Native.Nat.{◌+◌, ◌-◌}
 use native.Mathlib.Omega.{arith}
 use lib.ListN.{length, get_or, take}
-use Rattle.rules.specs.Limits.{limits, manifest_limit}
 use Rattle.manifests.specs.Manifests.{manifest_of, manifests_of, past_end}
-use Rattle.manifests.proofs.Places.{Long, long, few, kept-short}
+use Rattle.manifests.proofs.Places.{long, few, kept-short}
 use Rattle.image.specs.Rows.{bytes_from}
 use Rattle.image.specs.Image.{manifest_bytes}
 use Rattle.image.proofs.Walks.{bytes-some}
-use Rattle.image.proofs.Putting.{count_next, count-all}
+use Rattle.image.proofs.Putting.{count_next}
 use Rattle.image.proofs.Lengths.{manifest-any, manifests_bound}
 use Rattle.image.proofs.Kept.{kept-count, kept_at, kept-laid}
 use Rattle.image.proofs.saving.manifests_size.Goals.{After-manifest_size-size}

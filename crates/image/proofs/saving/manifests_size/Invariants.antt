@@ -1,17 +1,12 @@
 -- `image::saving::manifests_size` meets its contract: the bytes of the manifests so far. Assumes nothing.
-use mathlib.Core.Path.{◌≡◌, refl, sym, ap, ◌∙◌}
-use Prim.Native.Nat.{◌+◌, ◌-◌, ◌≤◌}
-use native.Mathlib.Omega.{arith}
-use lib.ListN.{length, get_or, take}
+use mathlib.Core.Path.{◌≡◌}
+use Prim.Native.Nat.{◌-◌, ◌≤◌}
+use lib.ListN.{length, take}
 use Rattle.rules.specs.Limits.{limits, manifest_limit}
-use Rattle.manifests.specs.Manifests.{manifest_of, manifests_of, past_end}
-use Rattle.manifests.proofs.Places.{Long, long, few, kept-short}
+use Rattle.manifests.specs.Manifests.{manifests_of}
+use Rattle.manifests.proofs.Places.{Long}
 use Rattle.image.specs.Rows.{bytes_from}
 use Rattle.image.specs.Image.{manifest_bytes}
-use Rattle.image.proofs.Walks.{bytes-some}
-use Rattle.image.proofs.Putting.{count_next, count-all}
-use Rattle.image.proofs.Lengths.{manifest-any, manifests_bound}
-use Rattle.image.proofs.Kept.{kept-count, kept_at, kept-laid}
 use Rattle.image.proofs.saving.manifests_size.Given as goal
 
 abbrev pub invariant-loop-i : goal.invariant-loop-i

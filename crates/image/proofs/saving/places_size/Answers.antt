@@ -1,13 +1,12 @@
-use mathlib.Core.Path.{◌≡◌, refl, ◌∙◌}
-use Prim.Native.Nat.{◌+◌, ◌-◌, ◌≤◌}
+use mathlib.Core.Path.{◌≡◌, refl}
+use Prim.Native.Nat.{◌+◌, ◌-◌}
 use native.Mathlib.Omega.{arith}
 use lib.ListN.{length, get_or, take}
-use Rattle.rules.specs.Limits.{limits}
 use Rattle.rules.specs.State.{free}
 use Rattle.image.specs.Rows.{bytes_from}
 use Rattle.image.specs.Image.{place_bytes}
 use Rattle.image.proofs.Walks.{bytes-some}
-use Rattle.image.proofs.Putting.{count_next, count-all}
+use Rattle.image.proofs.Putting.{count_next}
 use Rattle.image.proofs.Lengths.{length-place, places_bound}
 use Rattle.image.proofs.saving.places_size.Goals.{After-place_size-size}
 use borrow.Author.Rules.{rules}

@@ -1,15 +1,10 @@
 -- `image::saving::places_size` meets its contract: the bytes of the places so far. Assumes nothing.
-use mathlib.Core.Path.{◌≡◌, refl, ◌∙◌}
-use Prim.Native.Nat.{◌+◌, ◌-◌, ◌≤◌}
-use native.Mathlib.Omega.{arith}
-use lib.ListN.{length, get_or, take}
+use mathlib.Core.Path.{◌≡◌}
+use Prim.Native.Nat.{◌-◌, ◌≤◌}
+use lib.ListN.{length, take}
 use Rattle.rules.specs.Limits.{limits}
-use Rattle.rules.specs.State.{free}
 use Rattle.image.specs.Rows.{bytes_from}
 use Rattle.image.specs.Image.{place_bytes}
-use Rattle.image.proofs.Walks.{bytes-some}
-use Rattle.image.proofs.Putting.{count_next, count-all}
-use Rattle.image.proofs.Lengths.{length-place, places_bound}
 use Rattle.image.proofs.saving.places_size.Given as goal
 
 abbrev pub invariant-loop-i : goal.invariant-loop-i

@@ -1,15 +1,13 @@
 -- `image::saving::put_header` meets its contract: row behind row. Assumes nothing.
-use mathlib.Core.Path.{◌≡◌, refl, sym, ◌∙◌}
+use mathlib.Core.Path.{◌≡◌, refl, ◌∙◌}
 use mathlib.Core.List.{List, ◌++◌, append_assoc}
 use Prim.Native.Nat.{ℕ}
 use native.Mathlib.Omega.{arith}
 use lib.ListN.{length, take, drop}
-use lib.Seq.{length-take-le}
-use borrow.Rule.Slice.PartMut.{mid_len}
 use Rattle.image.specs.Rows.{row_of, total}
 use Rattle.image.specs.Format.{edition_row, clock_row, collected_row, edition, single}
 use Rattle.image.proofs.RowLaws.{length-row}
-use Rattle.image.proofs.Laying.{Lies, lies_front, lies_long, lies_part, lies_all}
+use Rattle.image.proofs.Laying.{Lies, lies_front, lies_part, lies_all}
 use Rattle.image.proofs.saving.put_header.Goals.{After-put_single, After-put_single-2}
 use Rattle.image.proofs.saving.put_header.Goals as goal
 

@@ -1,14 +1,13 @@
 use mathlib.Core.Path.{◌≡◌, refl, sym, ap, ◌∙◌}
 use mathlib.Core.List.{◌++◌}
-use Prim.Native.Nat.{◌+◌, ◌-◌, ◌≤◌, ◌<◌}
+use Prim.Native.Nat.{◌+◌, ◌-◌, ◌<◌}
 use native.Mathlib.Omega.{arith}
 use lib.ListN.{length, get_or, take, drop}
 use lib.Seq.{length-take-le, get_or-take}
-use Rattle.rules.specs.Limits.{limits}
 use Rattle.holds.specs.Holds.{no_hold, holds_of}
 use Rattle.holds.proofs.Places.{items_long}
 use Rattle.image.specs.Image.{hold_bytes}
-use Rattle.image.proofs.Putting.{Putting, putting_none, putting_long, putting_at, putting_room, putting_next, putting_all, put_as}
+use Rattle.image.proofs.Putting.{Putting, putting_none, putting_long, putting_room, putting_next, put_as}
 use Rattle.image.proofs.Lengths.{hold-any}
 use Rattle.image.proofs.saving.put_holds.Goals.{After-put_hold-at, In-loop-i}
 use Rattle.image.proofs.saving.put_holds.Goals as goal

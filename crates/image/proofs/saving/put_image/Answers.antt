@@ -4,7 +4,6 @@ use mathlib.Core.List.{List, ◌∷◌, ◌++◌, append_assoc}
 use Prim.Native.Nat.{ℕ, ◌+◌, ◌-◌}
 use native.Mathlib.Omega.{arith}
 use lib.ListN.{length, take, drop}
-use borrow.Rule.Slice.PartMut.{mid_len}
 use Rattle.fields.specs.Bytes.{be}
 use Rattle.records.proofs.Pieces.{length-head}
 use Rattle.rules.specs.State.{Manifest, kept}

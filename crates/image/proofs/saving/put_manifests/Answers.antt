@@ -1,13 +1,12 @@
 use mathlib.Core.Path.{◌≡◌, refl, sym, ap, ◌∙◌}
 use mathlib.Core.List.{◌++◌}
-use Prim.Native.Nat.{◌+◌, ◌-◌, ◌≤◌, ◌<◌}
+use Prim.Native.Nat.{◌+◌, ◌-◌, ◌<◌}
 use native.Mathlib.Omega.{arith}
 use lib.ListN.{length, get_or, take, drop}
-use Rattle.rules.specs.Limits.{limits, manifest_limit}
 use Rattle.manifests.specs.Manifests.{manifest_of, manifests_of, past_end}
-use Rattle.manifests.proofs.Places.{Long, long, few}
+use Rattle.manifests.proofs.Places.{long, few}
 use Rattle.image.specs.Image.{manifest_bytes}
-use Rattle.image.proofs.Putting.{Putting, putting_none, putting_long, putting_at, putting_room, putting_next, putting_all, put_as}
+use Rattle.image.proofs.Putting.{Putting, putting_none, putting_long, putting_room, putting_next, put_as}
 use Rattle.image.proofs.Lengths.{manifest-any}
 use Rattle.image.proofs.Kept.{kept-count, kept_at, kept-laid}
 use Rattle.image.proofs.saving.put_manifests.Goals.{After-put_manifest-at, In-loop-i}

@@ -1,12 +1,11 @@
-use mathlib.Core.Path.{◌≡◌, refl}
-use Prim.Native.Nat.{◌+◌, ◌-◌, ◌≤◌}
+use mathlib.Core.Path.{refl}
+use Prim.Native.Nat.{◌+◌, ◌-◌}
 use native.Mathlib.Omega.{arith}
 use lib.ListN.{length, take, drop}
 use mathlib.Core.List.{◌++◌}
-use Rattle.rules.specs.Limits.{limits}
 use Rattle.rules.specs.State.{free}
 use Rattle.image.specs.Image.{place_bytes}
-use Rattle.image.proofs.Putting.{Putting, putting_none, putting_long, putting_at, putting_room, putting_next, putting_all}
+use Rattle.image.proofs.Putting.{Putting, putting_none, putting_long, putting_room, putting_next}
 use Rattle.image.proofs.saving.put_places.Goals.{After-put_place-at}
 use borrow.Author.Rules.{rules}
 use Rattle.image.proofs.saving.put_places.Goals as goal

@@ -4,8 +4,6 @@ use mathlib.Core.Bool.{true}
 use Prim.Native.Nat.{◌≤◌}
 use native.Mathlib.Omega.{arith}
 use lib.ListN.{length}
-use lib.Seq.{length-take-le, length_front}
-use borrow.Author.Tests.{not-true, not-false}
 use Rattle.ledger.specs.Ledger.{is_sound}
 use Rattle.image.proofs.Results.{write-unsound, write-full, write-put}
 use Rattle.image.proofs.saving.write_image.Goals.{Else-not-is_sound, Else-out-size}

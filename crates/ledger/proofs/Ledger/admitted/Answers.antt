@@ -1,12 +1,8 @@
 -- `Ledger::admitted` meets its contract: each kind's own function has it, and beside a kind without a list there is none.
 -- Assumes nothing.
-use mathlib.Core.Path.{refl, ap, subst, sym, ◌∙◌}
-use Rattle.rules.specs.declared.Kind.{Kind}
-use Rattle.rules.specs.Request.{Asked}
+use mathlib.Core.Path.{refl, ◌∙◌}
 use Rattle.rules.specs.Typed.{names_of}
-use Rattle.ledger.specs.Step.{Admitted, ruled}
 use Rattle.ledger.proofs.Whole.{admits_alone, rules-alone}
-use borrow.Author.Rules.{rules}
 use Rattle.ledger.proofs.Ledger.admitted.Goals as goal
 
 pub fence-requires : goal.fence-requires

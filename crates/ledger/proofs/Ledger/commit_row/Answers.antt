@@ -2,17 +2,13 @@
 -- Assumes nothing.
 use mathlib.Core.Path.{◌≡◌, sym, ap, ◌∙◌}
 use mathlib.Core.Bool.{not}
-use Prim.Native.Nat.{ℕ, ◌≤◌}
-use native.Mathlib.Omega.{arith}
-use lib.ListN.{length}
-use lib.Seq.{length-take-le}
+use Prim.Native.Nat.{ℕ}
 use Rattle.rules.specs.Typed.{names_of}
 use Rattle.rules.specs.Words.{stored}
 use Rattle.manifests.specs.declared.KeptManifest.{KeptManifest}
 use Rattle.rules.specs.Table.{fence_row, slot_row}
 use Rattle.ledger.specs.Ledger.{view}
 use Rattle.ledger.proofs.View.{sound_parts}
-use Rattle.ledger.proofs.Names.{list_long}
 use Rattle.ledger.proofs.Live.{commit-rows}
 use Rattle.ledger.proofs.StoreSteps.{fenced_rows, fence-stop, slot-stop, slot_pass}
 use Rattle.ledger.proofs.Ledger.commit_row.Goals.{After-fence_row-fence, After-slot_row-row, Else-row-ne0}

@@ -1,13 +1,11 @@
 -- `Ledger::fence_row` meets its contract: rows 6 and 7.
 -- Assumes nothing.
 use mathlib.Core.Path.{sym, ap, ◌∙◌}
-use Rattle.holds.proofs.Places as holds
 use Rattle.rules.specs.Table.{slot_row}
 use Rattle.ledger.specs.Ledger.{view}
 use Rattle.ledger.proofs.View.{sound_parts}
 use Rattle.ledger.proofs.Live.{fence-rows}
 use Rattle.manifests.specs.declared.KeptManifest.{KeptManifest}
-use Rattle.manifests.proofs.Places as lists
 use Rattle.ledger.proofs.Ledger.fence_row.Goals as goal
 
 pub current-current-requires : goal.current-current-requires

@@ -1,10 +1,8 @@
 -- `Ledger::hold_row` meets its contract: rows 12 to 14.
 -- Assumes nothing.
 use mathlib.Core.Path.{◌≡◌, sym, ap, ◌∙◌}
-use mathlib.Core.Logic.{⊎_elim}
 use mathlib.Core.Bool.{true}
 use native.Mathlib.Omega.{arith}
-use borrow.Author.Tests.{not-true, not-false}
 use Rattle.rules.specs.Words.{is_live, active}
 use Rattle.manifests.specs.declared.KeptManifest.{KeptManifest}
 use Rattle.holds.proofs.Places as holds

@@ -3,7 +3,6 @@
 use mathlib.Core.Path.{◌≡◌, sym, ◌∙◌}
 use mathlib.Core.Bool.{true, and-true}
 use Prim.Native.Nat.{◌≤◌}
-use borrow.Author.Tests.{not-true, not-false}
 use Rattle.rules.specs.Limits.{limits}
 use Rattle.rules.specs.Lists.{conj, rising_above}
 use Rattle.holds.specs.Holds.{holds_of, numbers}

@@ -2,7 +2,6 @@
 -- Assumes nothing.
 use mathlib.Core.Path.{◌≡◌, sym, ◌∙◌}
 use mathlib.Core.Bool.{true, and-true}
-use borrow.Author.Tests.{not-true, not-false}
 use Rattle.rules.specs.Lists.{conj}
 use Rattle.objects.specs.Objects.{is_laid}
 use Rattle.ledger.proofs.Ledger.is_laid_out.Goals.{Else-not-is_laid}

@@ -2,7 +2,6 @@
 -- Assumes nothing.
 use mathlib.Core.Path.{◌≡◌, sym, ◌∙◌}
 use mathlib.Core.Bool.{true, ◌&&◌}
-use borrow.Author.Tests.{not-true, not-false}
 use Rattle.ledger.specs.Ledger.{is_laid_out, is_sound}
 use Rattle.ledger.specs.Parts.{objects_sound, manifests_sound, holds_sound}
 use Rattle.ledger.proofs.View.{sized}

@@ -7,7 +7,7 @@ use Rattle.rules.specs.declared.Kind.TheVariants.{List as LIST}
 use Rattle.ledger.specs.Ledger.{view}
 use Rattle.ledger.proofs.Door.{turned_away}
 use Rattle.ledger.proofs.Live.{live-rows}
-use Rattle.ledger.proofs.HoldSteps.{read-few, read-room, listed}
+use Rattle.ledger.proofs.HoldSteps.{read-room, listed}
 use Rattle.ledger.proofs.Ledger.list.Goals as goal
 
 pub returns-then-row-ne0 : goal.returns-then-row-ne0

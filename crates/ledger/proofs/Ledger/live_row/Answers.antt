@@ -3,7 +3,7 @@
 use mathlib.Core.Path.{◌≡◌, sym, ◌∙◌}
 use borrow.Author.Tests.{eq-eqb, ne_eqb}
 use Rattle.rules.specs.Table.{first_of}
-use Rattle.rules.specs.Words.{live, is_live}
+use Rattle.rules.specs.Words.{is_live}
 use Rattle.holds.proofs.Places as holds
 use Rattle.ledger.specs.Ledger.{view}
 use Rattle.ledger.proofs.View.{sound_parts}

@@ -2,7 +2,6 @@
 -- Assumes nothing.
 use mathlib.Core.Path.{◌≡◌, sym, ◌∙◌}
 use mathlib.Core.Bool.{true, and-true}
-use borrow.Author.Tests.{not-true, not-false}
 use Rattle.rules.specs.Lists.{conj}
 use Rattle.rules.specs.Sound.{ordered}
 use Rattle.manifests.specs.Manifests.{manifests_of}

@@ -2,7 +2,6 @@
 -- Assumes nothing.
 use mathlib.Core.Path.{◌≡◌, sym, ◌∙◌}
 use mathlib.Core.Bool.{and-true}
-use borrow.Author.Tests.{not-true, not-false}
 use Rattle.rules.specs.Lists.{conj, all}
 use Rattle.objects.specs.Objects.{place_sound_by}
 use Rattle.manifests.specs.Manifests.{current_of}

@@ -1,7 +1,6 @@
 -- `Ledger::refuse_unreadable` meets its contract.
 -- Assumes nothing.
 use mathlib.Core.Path.{sym, ◌∙◌}
-use borrow.Author.Tests.{not-true, not-false}
 use Rattle.ledger.proofs.Whole.{unsound-refused, unreadable_refused}
 use Rattle.ledger.proofs.Ledger.refuse_unreadable.Goals as goal
 

@@ -3,7 +3,7 @@
 use mathlib.Core.Path.{◌≡◌, sym, ap, ◌∙◌}
 use Prim.Native.Nat.{ℕ}
 use Rattle.ledger.specs.Step.{refused_with, door_of}
-use Rattle.ledger.proofs.Whole.{door_refused, door_padded, door_admits, door_rules}
+use Rattle.ledger.proofs.Whole.{door_refused, door_rules}
 use Rattle.ledger.proofs.Ledger.step.Goals.{Else-row-ne0}
 use Rattle.ledger.proofs.Ledger.step.Goals as goal
 

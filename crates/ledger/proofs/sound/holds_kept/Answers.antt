@@ -1,20 +1,10 @@
-use mathlib.Core.Path.{◌≡◌, refl, sym, ◌∙◌}
-use mathlib.Core.Bool.{Bool, false}
-use mathlib.Core.List.{List}
-use Prim.Native.Nat.{◌-◌, ◌≤◌}
+use mathlib.Core.Path.{◌≡◌, sym, ◌∙◌}
+use mathlib.Core.Bool.{false}
+use Prim.Native.Nat.{◌-◌}
 use native.Mathlib.Omega.{arith}
-use borrow.Author.Tests.{not-true, not-false}
-use lib.ListN.{length, take}
-use lib.Seq.{slice}
-use Rattle.rules.specs.declared.Hold.{Hold}
-use Rattle.rules.specs.Limits.{limits}
 use Rattle.rules.specs.Lists.{all}
 use Rattle.arrays.proofs.Scan.{scan_next, scan_stop, scan_end, all_hit, all-miss}
 use Rattle.holds.specs.Holds.{no_hold}
-use Rattle.holds.proofs.Places.{items_long}
-use Rattle.manifests.specs.declared.Manifests.{Manifests}
-use Rattle.manifests.specs.Manifests.{manifests_of}
-use Rattle.ledger.specs.Parts.{hold_kept}
 use Rattle.ledger.proofs.sound.holds_kept.Invariants.{asked}
 use Rattle.ledger.proofs.sound.holds_kept.Goals as goal
 

@@ -1,12 +1,9 @@
 use mathlib.Core.Path.{◌≡◌, refl, sym, ap, ◌∙◌}
 use mathlib.Core.Bool.{Bool, true, false, ◌&&◌}
 use mathlib.Core.List.{List}
-use Prim.Native.Nat.{ℕ, ◌-◌, ◌≤◌}
+use Prim.Native.Nat.{ℕ, ◌-◌}
 use native.Mathlib.Omega.{arith}
-use borrow.Author.Tests.{not-true, not-false}
 use lib.ListN.{take}
-use lib.Seq.{slice}
-use Rattle.rules.specs.Limits.{limits, manifest_limit}
 use Rattle.rules.specs.declared.Object.{Object}
 use Rattle.rules.specs.Lists.{all, conj, rising_above}
 use Rattle.arrays.proofs.Scan.{scan_next, scan_stop, scan_end, all_hit, all-miss}
@@ -14,8 +11,8 @@ use Rattle.objects.specs.Objects.{among, named_at}
 use Rattle.objects.proofs.Places.{named-among}
 use Rattle.manifests.specs.declared.KeptManifest.{KeptManifest}
 use Rattle.manifests.specs.Manifests.{past_end}
-use Rattle.manifests.proofs.Places.{Long, long, few, names-few}
-use Rattle.ledger.specs.Parts.{list_sound, list_sound_by}
+use Rattle.manifests.proofs.Places.{long, few, names-few}
+use Rattle.ledger.specs.Parts.{list_sound}
 use Rattle.ledger.proofs.SoundParts.{all_same}
 use Rattle.ledger.proofs.sound.lists_sound.Invariants.{asked}
 use Rattle.ledger.proofs.sound.lists_sound.Goals as goal

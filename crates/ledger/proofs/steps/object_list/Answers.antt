@@ -1,12 +1,12 @@
 use mathlib.Core.Path.{◌≡◌, sym, ap, ◌∙◌}
 use mathlib.Core.List.{map-id}
-use Prim.Native.Nat.{ℕ, ◌-◌, ◌≤◌}
+use Prim.Native.Nat.{ℕ, ◌-◌}
 use native.Mathlib.Omega.{arith}
 use lib.ListN.{length, take}
 use lib.Seq.{take_all}
 use Rattle.rules.specs.Limits.{limits}
 use Rattle.arrays.specs.Arrays.{pad}
-use Rattle.arrays.proofs.Lists.{Filled, filled_none, filled_next}
+use Rattle.arrays.proofs.Lists.{filled_none, filled_next}
 use Rattle.ledger.proofs.Names.{padded-pad}
 use Rattle.ledger.proofs.steps.object_list.Goals as goal
 

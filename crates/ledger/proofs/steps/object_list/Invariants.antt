@@ -1,15 +1,9 @@
 -- `object_list` meets its contract: the array is the layout of the numbers passed.
 -- Assumes nothing.
-use mathlib.Core.Path.{◌≡◌, sym, ap, ◌∙◌}
-use mathlib.Core.List.{map-id}
 use Prim.Native.Nat.{ℕ, ◌-◌, ◌≤◌}
-use native.Mathlib.Omega.{arith}
-use lib.ListN.{length, take}
-use lib.Seq.{take_all}
+use lib.ListN.{length}
 use Rattle.rules.specs.Limits.{limits}
-use Rattle.arrays.specs.Arrays.{pad}
-use Rattle.arrays.proofs.Lists.{Filled, filled_none, filled_next}
-use Rattle.ledger.proofs.Names.{padded-pad}
+use Rattle.arrays.proofs.Lists.{Filled}
 use Rattle.ledger.proofs.steps.object_list.Given as goal
 
 abbrev pub invariant-loop-i : goal.invariant-loop-i

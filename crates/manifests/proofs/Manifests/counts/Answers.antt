@@ -1,8 +1,7 @@
 use Prim.Native.Nat.{◌-◌}
 use native.Mathlib.Omega.{arith}
-use Rattle.rules.specs.Limits.{limits, manifest_limit}
 use Rattle.manifests.specs.declared.KeptManifest.{KeptManifest}
-use Rattle.arrays.proofs.Lists.{Copied, copied_none, copied_next, copied_all}
+use Rattle.arrays.proofs.Lists.{copied_none, copied_next, copied_all}
 use Rattle.manifests.specs.Manifests.{past_end}
 use Rattle.manifests.proofs.Places.{items_long}
 use Rattle.manifests.proofs.Manifests.counts.Goals as goal

@@ -1,12 +1,9 @@
 -- `Manifests::counts` meets its contract: the first places have the counts of the places passed.
 -- Assumes nothing.
 use Prim.Native.Nat.{◌-◌}
-use native.Mathlib.Omega.{arith}
 use Rattle.rules.specs.Limits.{limits, manifest_limit}
 use Rattle.manifests.specs.declared.KeptManifest.{KeptManifest}
-use Rattle.arrays.proofs.Lists.{Copied, copied_none, copied_next, copied_all}
-use Rattle.manifests.specs.Manifests.{past_end}
-use Rattle.manifests.proofs.Places.{items_long}
+use Rattle.arrays.proofs.Lists.{Copied}
 use Rattle.manifests.proofs.Manifests.counts.Given as goal
 
 abbrev pub invariant-loop-i : goal.invariant-loop-i

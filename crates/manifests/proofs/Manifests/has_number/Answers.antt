@@ -1,18 +1,11 @@
 use mathlib.Core.Path.{◌≡◌, refl, sym}
-use mathlib.Core.Bool.{Bool, true}
-use mathlib.Core.List.{List, map}
-use Prim.Native.Nat.{ℕ, ◌-◌, ◌≤◌}
+use mathlib.Core.Bool.{true}
+use Prim.Native.Nat.{◌-◌}
 use native.Mathlib.Omega.{arith}
 use borrow.Author.Tests.{eq-eqb, ne_eqb}
-use lib.Dec.{eqb}
-use lib.ListN.{length, take}
-use lib.Seq.{slice}
-use Rattle.rules.specs.Limits.{limits, manifest_limit}
 use Rattle.rules.specs.Lists.{any}
-use Rattle.rules.specs.State.{Manifest}
 use Rattle.arrays.proofs.Scan.{scan_next, scan_stop, scan_end, any_hit, any-miss}
-use Rattle.manifests.specs.declared.KeptManifest.{KeptManifest}
-use Rattle.manifests.specs.Manifests.{manifest_of, past_end}
+use Rattle.manifests.specs.Manifests.{past_end}
 use Rattle.manifests.proofs.Places.{long, few}
 use Rattle.manifests.proofs.Manifests.has_number.Invariants.{asked}
 use Rattle.manifests.proofs.Manifests.has_number.Goals as goal

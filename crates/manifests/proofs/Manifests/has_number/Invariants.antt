@@ -1,21 +1,17 @@
 -- `Manifests::has_number` meets its contract.
 -- Assumes nothing.
-use mathlib.Core.Path.{◌≡◌, refl, sym}
-use mathlib.Core.Bool.{Bool, true}
+use mathlib.Core.Path.{◌≡◌}
+use mathlib.Core.Bool.{Bool}
 use mathlib.Core.List.{List, map}
 use Prim.Native.Nat.{ℕ, ◌-◌, ◌≤◌}
-use native.Mathlib.Omega.{arith}
-use borrow.Author.Tests.{eq-eqb, ne_eqb}
 use lib.Dec.{eqb}
 use lib.ListN.{length, take}
 use lib.Seq.{slice}
 use Rattle.rules.specs.Limits.{limits, manifest_limit}
 use Rattle.rules.specs.Lists.{any}
 use Rattle.rules.specs.State.{Manifest}
-use Rattle.arrays.proofs.Scan.{scan_next, scan_stop, scan_end, any_hit, any-miss}
 use Rattle.manifests.specs.declared.KeptManifest.{KeptManifest}
-use Rattle.manifests.specs.Manifests.{manifest_of, past_end}
-use Rattle.manifests.proofs.Places.{long, few}
+use Rattle.manifests.specs.Manifests.{manifest_of}
 use Rattle.manifests.proofs.Manifests.has_number.Given as goal
 
 -- what is asked of the places

@@ -1,20 +1,16 @@
 use mathlib.Core.Path.{◌≡◌, refl, sym, ap, ◌∙◌}
-use mathlib.Core.Bool.{Bool, true, false, cond, ◌&&◌}
-use mathlib.Core.List.{List, ◌∷◌, map}
-use mathlib.Core.Logic.{⊎_elim}
+use mathlib.Core.Bool.{Bool, true, false, ◌&&◌}
+use mathlib.Core.List.{List, ◌∷◌}
 use Prim.Native.Nat.{ℕ, zero, suc, ◌+◌, ◌-◌, ◌≤◌, ◌<◌}
 use native.Mathlib.Omega.{arith}
-use borrow.Author.Tests.{ne_eqb, lt-leb, le-leb, not-true, not-false}
-use lib.Dec.{leb, eqb}
-use lib.ListN.{length, take, get_or}
-use lib.Seq.{slice}
-use Rattle.rules.specs.Limits.{limits, manifest_limit}
+use borrow.Author.Tests.{ne_eqb, lt-leb, le-leb}
+use lib.Dec.{leb}
+use lib.ListN.{get_or}
 use Rattle.rules.specs.Lists.{conj}
 use Rattle.rules.specs.State.{Manifest}
 use Rattle.rules.specs.Sound.{ordered}
 use Rattle.arrays.proofs.Scan.{scan_next, scan_stop, scan_end}
-use Rattle.manifests.specs.declared.KeptManifest.{KeptManifest}
-use Rattle.manifests.specs.Manifests.{manifest_of, past_end, epochs_follow}
+use Rattle.manifests.specs.Manifests.{past_end, epochs_follow}
 use Rattle.manifests.proofs.Places.{long, few}
 use Rattle.manifests.proofs.Manifests.is_ordered.Invariants.{least, asked}
 use Rattle.manifests.proofs.Manifests.is_ordered.Goals.{Joined-i-gt0}

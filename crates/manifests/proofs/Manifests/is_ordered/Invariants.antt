@@ -1,23 +1,16 @@
 -- `Manifests::is_ordered` meets its contract: what is asked of the manifests left, from the last one on, is what is asked of all.
 -- Assumes nothing.
-use mathlib.Core.Path.{◌≡◌, refl, sym, ap, ◌∙◌}
-use mathlib.Core.Bool.{Bool, true, false, cond, ◌&&◌}
-use mathlib.Core.List.{List, ◌∷◌, map}
-use mathlib.Core.Logic.{⊎_elim}
-use Prim.Native.Nat.{ℕ, zero, suc, ◌+◌, ◌-◌, ◌≤◌, ◌<◌}
-use native.Mathlib.Omega.{arith}
-use borrow.Author.Tests.{ne_eqb, lt-leb, le-leb, not-true, not-false}
-use lib.Dec.{leb, eqb}
-use lib.ListN.{length, take, get_or}
+use mathlib.Core.Path.{◌≡◌}
+use mathlib.Core.Bool.{Bool, cond}
+use mathlib.Core.List.{List, map}
+use Prim.Native.Nat.{ℕ, suc, ◌-◌, ◌≤◌}
+use lib.Dec.{eqb}
+use lib.ListN.{length, take}
 use lib.Seq.{slice}
 use Rattle.rules.specs.Limits.{limits, manifest_limit}
-use Rattle.rules.specs.Lists.{conj}
-use Rattle.rules.specs.State.{Manifest}
 use Rattle.rules.specs.Sound.{ordered}
-use Rattle.arrays.proofs.Scan.{scan_next, scan_stop, scan_end}
 use Rattle.manifests.specs.declared.KeptManifest.{KeptManifest}
-use Rattle.manifests.specs.Manifests.{manifest_of, past_end, epochs_follow}
-use Rattle.manifests.proofs.Places.{long, few}
+use Rattle.manifests.specs.Manifests.{manifest_of}
 use Rattle.manifests.proofs.Manifests.is_ordered.Given as goal
 
 -- the least number at i: the first manifest may have any

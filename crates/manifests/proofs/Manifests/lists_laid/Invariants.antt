@@ -1,17 +1,13 @@
 -- `Manifests::lists_laid` meets its contract.
 -- Assumes nothing.
-use mathlib.Core.Path.{◌≡◌, refl, sym, ◌∙◌}
-use mathlib.Core.Bool.{false}
+use mathlib.Core.Path.{◌≡◌}
 use Prim.Native.Nat.{◌-◌, ◌≤◌}
-use native.Mathlib.Omega.{arith}
-use borrow.Author.Tests.{not-true, not-false}
 use lib.ListN.{take}
 use lib.Seq.{slice}
 use Rattle.rules.specs.Limits.{limits, manifest_limit}
 use Rattle.rules.specs.Lists.{all}
-use Rattle.arrays.proofs.Scan.{scan_next, scan_stop, scan_end, all_hit, all-miss}
-use Rattle.manifests.specs.Manifests.{past_end, is_list_laid}
-use Rattle.manifests.proofs.Places.{Long, long, names_long}
+use Rattle.manifests.specs.Manifests.{is_list_laid}
+use Rattle.manifests.proofs.Places.{Long}
 use Rattle.manifests.proofs.Manifests.lists_laid.Given as goal
 
 abbrev pub invariant-loop-i : goal.invariant-loop-i

@@ -1,19 +1,15 @@
 -- `Manifests::numbered` meets its contract: a kept manifest is the layout of what it says.
 -- Assumes nothing.
-use mathlib.Core.Path.{◌≡◌, refl, sym, ap, ◌∙◌}
+use mathlib.Core.Path.{◌≡◌}
 use mathlib.Core.List.{List, map}
 use Prim.Native.Nat.{ℕ, ◌-◌, ◌≤◌}
-use native.Mathlib.Omega.{arith}
-use borrow.Author.Tests.{eq-eqb, ne_eqb}
 use lib.ListN.{length, take}
 use lib.Seq.{slice}
 use Rattle.rules.specs.Limits.{limits, manifest_limit}
 use Rattle.rules.specs.Lists.{lookup}
 use Rattle.rules.specs.State.{Manifest, first_manifest}
-use Rattle.arrays.proofs.Scan.{scan_next, scan_stop, scan_end, lookup_hit, lookup-miss}
 use Rattle.manifests.specs.declared.KeptManifest.{KeptManifest}
-use Rattle.manifests.specs.Manifests.{lay_manifest, manifest_of, past_end}
-use Rattle.manifests.proofs.Places.{long, few, kept-formed}
+use Rattle.manifests.specs.Manifests.{manifest_of}
 use Rattle.manifests.proofs.Manifests.numbered.Given as goal
 
 -- what is asked of the places

@@ -1,19 +1,10 @@
 use mathlib.Core.Path.{◌≡◌, refl, sym, ◌∙◌}
-use mathlib.Core.Bool.{Bool, false}
-use mathlib.Core.List.{List, map}
-use Prim.Native.Nat.{◌-◌, ◌≤◌}
+use mathlib.Core.Bool.{false}
+use Prim.Native.Nat.{◌-◌}
 use native.Mathlib.Omega.{arith}
-use borrow.Author.Tests.{not-true, not-false}
-use lib.ListN.{length, take}
-use lib.Seq.{slice}
-use Rattle.rules.specs.Limits.{limits, manifest_limit}
 use Rattle.rules.specs.Lists.{all}
-use Rattle.rules.specs.Step.{held_by}
 use Rattle.arrays.proofs.Scan.{scan_next, scan_stop, scan_end, all_hit, all-miss}
-use Rattle.holds.specs.declared.Holds.{Holds}
-use Rattle.holds.specs.Holds.{holds_of}
-use Rattle.manifests.specs.declared.KeptManifest.{KeptManifest}
-use Rattle.manifests.specs.Manifests.{manifest_of, past_end}
+use Rattle.manifests.specs.Manifests.{past_end}
 use Rattle.manifests.proofs.Places.{long, some, few}
 use Rattle.manifests.proofs.Manifests.older_held.Invariants.{asked}
 use Rattle.manifests.proofs.Manifests.older_held.Goals as goal

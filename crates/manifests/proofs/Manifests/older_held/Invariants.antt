@@ -1,22 +1,18 @@
 -- `Manifests::older_held` meets its contract.
 -- Assumes nothing.
-use mathlib.Core.Path.{◌≡◌, refl, sym, ◌∙◌}
-use mathlib.Core.Bool.{Bool, false}
+use mathlib.Core.Path.{◌≡◌}
+use mathlib.Core.Bool.{Bool}
 use mathlib.Core.List.{List, map}
 use Prim.Native.Nat.{◌-◌, ◌≤◌}
-use native.Mathlib.Omega.{arith}
-use borrow.Author.Tests.{not-true, not-false}
 use lib.ListN.{length, take}
 use lib.Seq.{slice}
 use Rattle.rules.specs.Limits.{limits, manifest_limit}
 use Rattle.rules.specs.Lists.{all}
 use Rattle.rules.specs.Step.{held_by}
-use Rattle.arrays.proofs.Scan.{scan_next, scan_stop, scan_end, all_hit, all-miss}
 use Rattle.holds.specs.declared.Holds.{Holds}
 use Rattle.holds.specs.Holds.{holds_of}
 use Rattle.manifests.specs.declared.KeptManifest.{KeptManifest}
-use Rattle.manifests.specs.Manifests.{manifest_of, past_end}
-use Rattle.manifests.proofs.Places.{long, some, few}
+use Rattle.manifests.specs.Manifests.{manifest_of}
 use Rattle.manifests.proofs.Manifests.older_held.Given as goal
 
 -- what is asked of the places

@@ -1,23 +1,16 @@
 -- `Manifests::repacked` meets its contract: the array is the layout of the held manifests among those passed.
 -- Assumes nothing.
-use mathlib.Core.Path.{◌≡◌, sym, ap, ap₂, ◌∙◌, subst}
+use mathlib.Core.Path.{◌≡◌}
 use mathlib.Core.Bool.{Bool}
-use mathlib.Core.List.{List, [], ◌∷◌, ◌++◌, map}
-use mathlib.Core.Logic.{⊎_elim}
-use Prim.Native.Nat.{ℕ, ◌+◌, ◌-◌, ◌≤◌}
-use native.Mathlib.Omega.{arith}
-use lib.ListN.{length, take, set, length-map, length-append}
+use Prim.Native.Nat.{◌-◌, ◌≤◌}
+use lib.ListN.{length}
 use Rattle.rules.specs.Limits.{limits, manifest_limit}
-use Rattle.rules.specs.Lists.{keep}
 use Rattle.rules.specs.Step.{held_by}
-use Rattle.arrays.specs.Arrays.{pad}
-use Rattle.arrays.proofs.Lists.{Packed, packed_none, packed_few, packed_kept, packed_left, keep_same, pad-set, map-append}
+use Rattle.arrays.proofs.Lists.{Packed}
 use Rattle.holds.specs.declared.Holds.{Holds}
 use Rattle.holds.specs.Holds.{holds_of}
 use Rattle.manifests.specs.declared.KeptManifest.{KeptManifest}
-use Rattle.manifests.specs.declared.Manifests.{Manifests}
-use Rattle.manifests.specs.Manifests.{lay_manifest, lay_manifests, manifest_of, no_manifest, past_end, Repackable}
-use Rattle.manifests.proofs.Places.{Long, long, few, kept_same, zero_items}
+use Rattle.manifests.specs.Manifests.{manifest_of, no_manifest}
 use Rattle.manifests.proofs.Manifests.repacked.Given as goal
 
 -- whether a hold names the manifest of a place

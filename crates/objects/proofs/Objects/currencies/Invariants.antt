@@ -1,12 +1,9 @@
 -- `Objects::currencies` meets its contract: the places passed are copied, the currency of each.
 -- Assumes nothing.
 use Prim.Native.Nat.{ℕ, ◌-◌}
-use native.Mathlib.Omega.{arith}
 use Rattle.rules.specs.declared.Object.{Object}
 use Rattle.rules.specs.Limits.{limits}
-use Rattle.rules.specs.State.{free}
-use Rattle.arrays.proofs.Lists.{Copied, copied_none, copied_next, copied_all}
-use Rattle.objects.proofs.Places.{items_long}
+use Rattle.arrays.proofs.Lists.{Copied}
 use Rattle.objects.proofs.Objects.currencies.Given as goal
 
 abbrev pub field : Object → ℕ

@@ -4,7 +4,7 @@ use mathlib.Core.Path.{ap₂, ◌∙◌}
 use mathlib.Core.List.{List}
 use Prim.Native.Nat.{ℕ}
 use Rattle.objects.specs.Objects.{currency_among}
-use Rattle.objects.proofs.Places.{currency_among_lem, pair_long}
+use Rattle.objects.proofs.Places.{currency_among_lem}
 use Rattle.objects.proofs.Objects.currency_of.Goals as goal
 
 pub returns : goal.returns

@@ -1,18 +1,17 @@
 use mathlib.Core.Path.{◌≡◌, sym, ap, ap₂, ◌∙◌}
-use mathlib.Core.Logic.{⊎_elim}
 use mathlib.Core.Bool.{true, false}
 use mathlib.Core.List.{List, ◌∷◌}
-use Prim.Native.Nat.{ℕ, ◌+◌, ◌-◌, ◌≤◌, max}
+use Prim.Native.Nat.{ℕ, ◌+◌, ◌-◌, max}
 use native.Mathlib.Omega.{arith}
 use borrow.Author.Tests.{eq-eqb, ne_eqb}
 use lib.Dec.{eqb}
 use lib.ListN.{length, get_or}
-use lib.Seq.{slice, take_all}
+use lib.Seq.{slice}
 use Rattle.rules.specs.Lists.{keep, maximum}
 use Rattle.rules.proofs.Lists.{keep_same}
 use Rattle.arrays.proofs.Scan.{scan_next, scan_end}
 use Rattle.objects.specs.Objects.{currency_among, of_currency_in}
-use Rattle.objects.proofs.Places.{currency_among_lem, pair_long}
+use Rattle.objects.proofs.Places.{currency_among_lem}
 use Rattle.objects.proofs.Objects.highest.Invariants.{asked}
 use Rattle.objects.proofs.Objects.highest.Goals.{then-currency_among-currency+then-best-n, then-currency_among-currency+else-best-n, else-currency_among-currency}
 use Rattle.objects.proofs.Objects.highest.Goals as goal

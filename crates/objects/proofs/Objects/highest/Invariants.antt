@@ -1,20 +1,13 @@
 -- `Objects::highest` meets its contract: the best so far, and what is left.
 -- Assumes nothing.
-use mathlib.Core.Path.{◌≡◌, sym, ap, ap₂, ◌∙◌}
-use mathlib.Core.Logic.{⊎_elim}
-use mathlib.Core.Bool.{true, false}
-use mathlib.Core.List.{List, ◌∷◌}
-use Prim.Native.Nat.{ℕ, ◌+◌, ◌-◌, ◌≤◌, max}
-use native.Mathlib.Omega.{arith}
-use borrow.Author.Tests.{eq-eqb, ne_eqb}
+use mathlib.Core.Path.{◌≡◌}
+use mathlib.Core.List.{List}
+use Prim.Native.Nat.{ℕ, ◌-◌, ◌≤◌, max}
 use lib.Dec.{eqb}
-use lib.ListN.{length, get_or}
-use lib.Seq.{slice, take_all}
+use lib.ListN.{length}
+use lib.Seq.{slice}
 use Rattle.rules.specs.Lists.{keep, maximum}
-use Rattle.rules.proofs.Lists.{keep_same}
-use Rattle.arrays.proofs.Scan.{scan_next, scan_end}
-use Rattle.objects.specs.Objects.{currency_among, of_currency_in}
-use Rattle.objects.proofs.Places.{currency_among_lem, pair_long}
+use Rattle.objects.specs.Objects.{currency_among}
 use Rattle.objects.proofs.Objects.highest.Given as goal
 
 -- the highest of what was found and what is left

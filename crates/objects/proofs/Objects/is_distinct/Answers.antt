@@ -1,12 +1,10 @@
 use mathlib.Core.Path.{◌≡◌, sym, ap, ◌∙◌, subst⁻¹}
-use mathlib.Core.Logic.{⊎_elim}
 use mathlib.Core.List.{List}
-use Prim.Native.Nat.{ℕ, ◌+◌, ◌-◌, ◌≤◌}
+use Prim.Native.Nat.{ℕ, ◌+◌, ◌-◌}
 use native.Mathlib.Omega.{arith}
 use lib.ListN.{length, length-map}
-use lib.Seq.{take_all, length-take-le}
+use lib.Seq.{take_all}
 use Rattle.rules.specs.declared.Object.{Object}
-use Rattle.rules.specs.Limits.{limits}
 use Rattle.rules.specs.Lists.{keep, distinct}
 use Rattle.rules.specs.Table.{nonzero}
 use Rattle.objects.specs.Objects.{numbers_at, numbers_in}

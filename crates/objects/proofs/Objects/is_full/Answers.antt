@@ -12,7 +12,7 @@ use Rattle.rules.specs.State.{occupied}
 use Rattle.rules.proofs.Lists.{bool_ext}
 use Rattle.rules.proofs.Numbers.{keep-length}
 use Rattle.objects.specs.Occupancy.{used}
-use Rattle.objects.proofs.Places.{items_long, laid-flags, laid-count, used-length}
+use Rattle.objects.proofs.Places.{items_long, laid-flags, used-length}
 use Rattle.objects.proofs.Objects.is_full.Goals as goal
 
 -- at most k: all are taken exactly when k are

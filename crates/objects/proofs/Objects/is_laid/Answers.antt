@@ -1,22 +1,21 @@
 use mathlib.Core.Path.{◌≡◌, refl, sym, ap, ◌∙◌}
 use mathlib.Core.Bool.{Bool, true, false, ◌&&◌}
 use mathlib.Core.List.{List, [], ◌∷◌, map}
-use Prim.Native.Nat.{ℕ, suc, ◌+◌, ◌-◌, ◌*◌, ◌≤◌, ◌<◌}
+use Prim.Native.Nat.{ℕ, suc, ◌+◌, ◌-◌, ◌*◌, ◌<◌}
 use native.Mathlib.Numerals.{add-one}
 use native.Mathlib.Omega.{arith}
 use borrow.Author.Tests.{eq-eqb, ne_eqb}
 use lib.Dec.{eqb}
-use lib.ListN.{length, take, drop, get_or, length-map, length-take, drop_of_length-le}
+use lib.ListN.{length, take, drop, get_or, drop_of_length-le}
 use lib.Seq.{drop-cons, drop-drop}
 use Rattle.rules.specs.declared.Object.{Object}
-use Rattle.rules.specs.Limits.{limits, word_count, word_bits}
+use Rattle.rules.specs.Limits.{word_count, word_bits}
 use Rattle.rules.specs.State.{occupied}
 use Rattle.rules.specs.Table.{nonzero}
 use Rattle.arrays.proofs.Lists.{map-take, map-drop}
 use Rattle.objects.specs.declared.Objects.{Objects}
 use Rattle.objects.specs.Occupancy.{word, words_of}
 use Rattle.objects.specs.Objects.{same, words_at, numbers_at}
-use Rattle.objects.proofs.Places.{items_long, words_long}
 use Rattle.objects.proofs.Objects.is_laid.Invariants.{laid_from}
 use Rattle.objects.proofs.Objects.is_laid.Goals.{After-word_of}
 use Rattle.objects.proofs.Objects.is_laid.Goals as goal

@@ -1,10 +1,10 @@
 use mathlib.Core.Path.{sym, ap, ◌∙◌}
 use Prim.Native.Nat.{◌-◌}
 use native.Mathlib.Omega.{arith}
-use Rattle.rules.specs.Limits.{limits, word_count, word_bits}
+use Rattle.rules.specs.Limits.{word_count, word_bits}
 use Rattle.rules.specs.State.{free}
 use Rattle.rules.specs.Step.{mark}
-use Rattle.arrays.proofs.Lists.{Copied, copied_none, copied_next, copied_all}
+use Rattle.arrays.proofs.Lists.{copied_none, copied_next, copied_all}
 use Rattle.objects.specs.declared.Objects.{Objects}
 use Rattle.objects.specs.Occupancy.{words_of}
 use Rattle.objects.proofs.Places.{items_long, laid-words, marked-places}

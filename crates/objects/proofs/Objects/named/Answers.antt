@@ -1,13 +1,10 @@
 use mathlib.Core.Path.{◌≡◌, sym, ap, ◌∙◌}
-use mathlib.Core.Logic.{⊎_elim}
 use mathlib.Core.Bool.{Bool, cond}
-use Prim.Native.Nat.{ℕ, ◌-◌}
+use Prim.Native.Nat.{◌-◌}
 use native.Mathlib.Omega.{arith}
 use lib.ListN.{get_or}
-use Rattle.rules.specs.declared.Object.{Object}
-use Rattle.rules.specs.Limits.{limits}
 use Rattle.rules.specs.State.{free}
-use Rattle.arrays.proofs.Lists.{Copied, copied_none, copied_next, copied_all}
+use Rattle.arrays.proofs.Lists.{copied_none, copied_next, copied_all}
 use Rattle.objects.proofs.Places.{items_long}
 use Rattle.objects.proofs.Objects.named.Invariants.{field}
 use Rattle.objects.proofs.Objects.named.Goals.{else-o, then-o}

@@ -1,16 +1,10 @@
 -- `Objects::named` meets its contract: the places passed are copied, the number of each that is marked.
 -- Assumes nothing.
-use mathlib.Core.Path.{◌≡◌, sym, ap, ◌∙◌}
-use mathlib.Core.Logic.{⊎_elim}
-use mathlib.Core.Bool.{Bool, cond}
+use mathlib.Core.Bool.{cond}
 use Prim.Native.Nat.{ℕ, ◌-◌}
-use native.Mathlib.Omega.{arith}
-use lib.ListN.{get_or}
 use Rattle.rules.specs.declared.Object.{Object}
 use Rattle.rules.specs.Limits.{limits}
-use Rattle.rules.specs.State.{free}
-use Rattle.arrays.proofs.Lists.{Copied, copied_none, copied_next, copied_all}
-use Rattle.objects.proofs.Places.{items_long}
+use Rattle.arrays.proofs.Lists.{Copied}
 use Rattle.objects.proofs.Objects.named.Given as goal
 
 abbrev pub field : Object → ℕ

@@ -1,9 +1,7 @@
-use Prim.Native.Nat.{ℕ, ◌-◌}
+use Prim.Native.Nat.{◌-◌}
 use native.Mathlib.Omega.{arith}
-use Rattle.rules.specs.declared.Object.{Object}
-use Rattle.rules.specs.Limits.{limits}
 use Rattle.rules.specs.State.{free}
-use Rattle.arrays.proofs.Lists.{Copied, copied_none, copied_next, copied_all}
+use Rattle.arrays.proofs.Lists.{copied_none, copied_next, copied_all}
 use Rattle.objects.proofs.Places.{items_long}
 use Rattle.objects.proofs.Objects.numbers.Invariants.{field}
 use Rattle.objects.proofs.Objects.numbers.Goals as goal

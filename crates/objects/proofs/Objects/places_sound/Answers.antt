@@ -1,10 +1,8 @@
 use mathlib.Core.Path.{◌≡◌, sym, ap, ◌∙◌}
 use mathlib.Core.Bool.{false}
-use Prim.Native.Nat.{◌-◌, ◌≤◌}
+use Prim.Native.Nat.{◌-◌}
 use native.Mathlib.Omega.{arith}
-use borrow.Author.Tests.{not-true, not-false}
-use lib.ListN.{length}
-use lib.Seq.{slice, take_all}
+use lib.Seq.{take_all}
 use Rattle.rules.specs.Lists.{all}
 use Rattle.rules.specs.Limits.{limits}
 use Rattle.rules.specs.State.{free}

@@ -2,14 +2,10 @@
 -- Assumes nothing.
 use mathlib.Core.Path.{◌≡◌}
 use mathlib.Core.List.{List}
-use Prim.Native.Nat.{ℕ, ◌+◌, ◌-◌, ◌*◌, ◌≤◌, ◌<◌}
-use native.Mathlib.Numerals.{add-one}
-use native.Mathlib.Omega.{arith}
-use lib.ListN.{length, drop, get_or, drop_of_length-le}
-use lib.Seq.{drop-cons}
+use Prim.Native.Nat.{ℕ, ◌+◌, ◌-◌, ◌*◌, ◌≤◌}
+use lib.ListN.{length, drop}
 use Rattle.rules.specs.Limits.{word_bits}
-use Rattle.objects.specs.Occupancy.{flags, flags_of, lowest_free}
-use Rattle.objects.proofs.Words.{lowest-found, lowest-full}
+use Rattle.objects.specs.Occupancy.{flags_of, lowest_free}
 use Rattle.objects.proofs.occupancy.lowest_free.Given as goal
 
 -- the lowest free place of the words from k on

@@ -1,8 +1,6 @@
 -- `lowest_in`, by the law of an occupancy word.
 -- Assumes nothing.
-use Prim.Native.Nat.{◌-◌, ◌^◌}
-use native.Mathlib.Omega.{arith}
-use lib.Count.{trailing_le}
+use Prim.Native.Nat.{◌-◌}
 use Rattle.rules.specs.Limits.{word_bits}
 use Rattle.objects.proofs.Words.{lowest-flags}
 use Rattle.objects.proofs.occupancy.lowest_in.Goals as goal

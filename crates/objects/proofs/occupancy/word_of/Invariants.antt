@@ -1,19 +1,12 @@
 -- `word_of` meets its contract: the word of the places passed, from the last on.
 -- Assumes nothing.
-use mathlib.Core.Path.{◌≡◌, sym, ap, ◌∙◌}
-use mathlib.Core.Logic.{⊎_elim}
-use mathlib.Core.Bool.{Bool, not, cond}
+use mathlib.Core.Path.{◌≡◌}
 use mathlib.Core.List.{List, map}
-use Prim.Native.Nat.{ℕ, suc, ◌+◌, ◌*◌, ◌-◌, ◌≤◌, ◌<◌, ◌^◌}
-use native.Mathlib.Omega.{arith}
-use borrow.Author.Tests.{eq-eqb, ne_eqb}
-use lib.ListN.{length, drop, get_or, length-map, length-drop}
-use lib.Seq.{drop-cons, drop-length}
-use lib.Pow.{pow_mono}
+use Prim.Native.Nat.{ℕ, ◌-◌, ◌≤◌}
+use lib.ListN.{length, drop}
 use Rattle.rules.specs.Limits.{word_bits}
 use Rattle.rules.specs.Table.{nonzero}
 use Rattle.objects.specs.Occupancy.{word}
-use Rattle.objects.proofs.Words.{word_lt}
 use Rattle.objects.proofs.occupancy.word_of.Given as goal
 
 -- the word of the places from i on

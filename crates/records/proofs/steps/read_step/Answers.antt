@@ -2,15 +2,12 @@
 -- Assumes nothing.
 use mathlib.Core.Path.{◌≡◌, sym, ap, ap₂, ◌∙◌}
 use mathlib.Core.Bool.{true}
-use native.Mathlib.Omega.{arith}
 use lib.ListN.{drop, get_or}
-use borrow.Author.Tests.{not-true, not-false}
 use Rattle.records.specs.declared.KindRead.TheVariants.{Known, Unknown}
 use Rattle.records.specs.Found.{is_whole, fields_in, placed_all}
 use Rattle.records.specs.Walk.{Walked, walk}
 use Rattle.records.specs.Steps.{fields_of, request_of_walk, step_read}
 use Rattle.records.proofs.Places.{tail}
-use Rattle.records.proofs.Fronts.{whole_room}
 use Rattle.records.proofs.Tables.{fields_in_lem, step_placed, request_placed}
 use Rattle.records.proofs.Requests.{decode-torn, decode-whole}
 use Rattle.records.proofs.steps.read_step.Goals.{Else-not-is_whole}

@@ -1,13 +1,13 @@
 -- `records::steps::step_of` meets its contract: the cases are those of the definition, and a list that is too long makes no step.
 -- Assumes nothing.
-use mathlib.Core.Path.{◌≡◌, sym, ap, ap₂, ◌∙◌}
+use mathlib.Core.Path.{◌≡◌, sym, ap₂, ◌∙◌}
 use mathlib.Core.Bool.{Bool, true, false, cond}
 use mathlib.Core.List.{List, ◌++◌}
 use Prim.Native.Nat.{ℕ}
 use native.Mathlib.Omega.{arith}
-use lib.ListN.{length, drop, get_or, replicate, length-drop}
+use lib.ListN.{drop, get_or, replicate}
 use lib.Seq.{length-take-le}
-use borrow.Author.Tests.{not-true, not-false}
+use borrow.Author.Tests.{not-false}
 use Rattle.fields.specs.Bytes.{words_of}
 use Rattle.fields.proofs.Bytes.{length-words_of}
 use Rattle.rules.specs.declared.Step.{Step}

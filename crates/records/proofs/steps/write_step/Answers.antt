@@ -6,12 +6,10 @@ use Prim.Native.Nat.{◌≤◌}
 use native.Mathlib.Omega.{arith}
 use lib.ListN.{length, length-take}
 use lib.Seq.{length-take-le}
-use borrow.Author.Tests.{not-true, not-false}
 use Rattle.rules.specs.Limits.{limits}
-use Rattle.rules.specs.Typed.{request_of, can_say, names_of}
-use Rattle.records.specs.Steps.{outer_tag, fields_of}
+use Rattle.rules.specs.Typed.{request_of, can_say}
 use Rattle.records.proofs.Listed.{said-room}
-use Rattle.records.proofs.Tables.{record_written, step_placed}
+use Rattle.records.proofs.Tables.{step_placed}
 use Rattle.records.proofs.steps.write_step.Goals.{Else-not-is_well_formed}
 use borrow.Author.Rules.{rules}
 use Rattle.records.proofs.steps.write_step.Goals as goal

@@ -1,18 +1,18 @@
-use mathlib.Core.Path.{◌≡◌, refl, sym, ap, ◌∙◌}
+use mathlib.Core.Path.{◌≡◌, sym, ap, ◌∙◌}
 use mathlib.Core.Bool.{true}
 use mathlib.Core.List.{◌∷◌}
-use Prim.Native.Nat.{◌+◌, ◌-◌, ◌*◌, ◌≤◌}
+use Prim.Native.Nat.{◌+◌, ◌-◌, ◌≤◌}
 use native.Mathlib.Omega.{arith}
-use lib.ListN.{length, get_or, take, drop, replicate, length-set, length-drop, drop_of_length-le}
+use lib.ListN.{length, get_or, take, drop, length-set, length-drop, drop_of_length-le}
 use borrow.Author.Tests.{not-true, not-false}
 use Rattle.records.specs.declared.Field.{Field}
 use Rattle.records.specs.declared.Held.{Held}
-use Rattle.records.specs.Format.{most_fields, inner}
+use Rattle.records.specs.Format.{inner}
 use Rattle.records.specs.Walk.{walk}
 use Rattle.records.specs.Found.{held, placed_all}
 use Rattle.records.proofs.Places.{rest_cons, rest-none, take-set, tail}
 use Rattle.records.proofs.Fronts.{held-room}
-use Rattle.records.proofs.Joined.{joined, joined-none, joined-field, joined-absent, joined_end, walk-left, walk_none, zeros_next, first-within, first-none}
+use Rattle.records.proofs.Joined.{joined, joined-field, joined-absent, joined_end, walk-left, walk_none, zeros_next, first-within, first-none}
 use Rattle.records.proofs.walking.walk.Goals.{After-read_field-h, Else-not-h}
 use Rattle.records.proofs.walking.walk.Goals as goal
 

@@ -1,9 +1,8 @@
-use mathlib.Core.Path.{◌≡◌}
-use Prim.Native.Nat.{◌+◌, ◌-◌, ◌*◌, ◌≤◌}
+use Prim.Native.Nat.{◌-◌, ◌*◌, ◌≤◌}
 use native.Mathlib.Omega.{arith}
-use lib.ListN.{length, get_or, take, drop}
+use lib.ListN.{get_or}
 use Rattle.rules.specs.Limits.{limits}
-use Rattle.records.specs.Format.{inner, bytes_of}
+use Rattle.records.specs.Format.{inner}
 use Rattle.records.specs.Found.{is_narrow}
 use Rattle.records.proofs.Places.{rest_cons, rest-none, all-at}
 use Rattle.records.proofs.Pieces.{bytes-none, length_cons, content-short}

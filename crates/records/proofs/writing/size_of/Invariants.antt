@@ -2,13 +2,9 @@
 -- Assumes nothing.
 use mathlib.Core.Path.{◌≡◌}
 use Prim.Native.Nat.{◌+◌, ◌-◌, ◌*◌, ◌≤◌}
-use native.Mathlib.Omega.{arith}
-use lib.ListN.{length, get_or, take, drop}
+use lib.ListN.{length, take, drop}
 use Rattle.rules.specs.Limits.{limits}
-use Rattle.records.specs.Format.{inner, bytes_of}
-use Rattle.records.specs.Found.{is_narrow}
-use Rattle.records.proofs.Places.{rest_cons, rest-none, all-at}
-use Rattle.records.proofs.Pieces.{bytes-none, length_cons, content-short}
+use Rattle.records.specs.Format.{bytes_of}
 use Rattle.records.proofs.writing.size_of.Given as goal
 
 abbrev pub invariant-loop-i : goal.invariant-loop-i

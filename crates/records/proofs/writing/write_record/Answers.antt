@@ -1,7 +1,6 @@
 -- `records::writing::write_record` meets its contract: the head, and behind it the fields, where there is room.
 -- Assumes nothing.
 use native.Mathlib.Omega.{arith}
-use lib.ListN.{length-take, length-drop}
 use Rattle.records.specs.Format.{bytes_of}
 use Rattle.records.specs.Found.{fields_in}
 use Rattle.records.proofs.Pieces.{record_full, record_put}
