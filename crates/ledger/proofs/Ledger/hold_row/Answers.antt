@@ -63,8 +63,11 @@ is_active c =
     let a = c in
     let st = c in
     let s = st.args in
-    (elim c.if-manifest-current.branch [ then-manifest-current+else-not-names_manifest w ↦ active-held (view s.self) s.time s.manifest
-    (sym (live-manifest s.self st.requires s.time a.live-live.ensures s.manifest) ∙ sym w.names_manifest.ensures ∙ w.if-not-names_manifest.false) | else-manifest-current w ↦ active-current (view s.self) s.time s.manifest (w.if-manifest-current.false ∙ ap (λ (m : KeptManifest). m.number) cur.current-current.ensures) ])
+    (elim c.if-manifest-current.branch [
+      | then-manifest-current+else-not-names_manifest w ↦ active-held (view s.self) s.time s.manifest
+          (sym (live-manifest s.self st.requires s.time a.live-live.ensures s.manifest) ∙ sym w.names_manifest.ensures ∙ w.if-not-names_manifest.false)
+      | else-manifest-current w ↦ active-current (view s.self) s.time s.manifest (w.if-manifest-current.false ∙ ap (λ (m : KeptManifest). m.number) cur.current-current.ensures)
+    ])
 
 pub returns-then-live-ge-HOLDS : goal.returns-then-live-ge-HOLDS
 returns-then-live-ge-HOLDS c e =

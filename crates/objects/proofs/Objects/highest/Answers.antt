@@ -41,7 +41,7 @@ loop-i-preserved c =
     λ new e m. asked_hit ns cs s.currency b n rest e ∙ ap (λ (k : ℕ). asked ns cs s.currency k rest) m in
     let turn : asked ns cs s.currency b (n ∷ rest) ≡ asked ns cs s.currency c.if-currency_among-currency.best rest =
     elim c.if-currency_among-currency.branch [
-      then-currency_among-currency+then-best-n w ↦ hit _ (eq-eqb _ _ (is ∙ w.if-currency_among-currency.true)) (omega (arith, w.if-best-n.true, w.best-is))
+      | then-currency_among-currency+then-best-n w ↦ hit _ (eq-eqb _ _ (is ∙ w.if-currency_among-currency.true)) (omega (arith, w.if-best-n.true, w.best-is))
       | then-currency_among-currency+else-best-n w ↦ hit _ (eq-eqb _ _ (is ∙ w.if-currency_among-currency.true)) (omega (arith, w.if-best-n.false, w.best-is))
       | else-currency_among-currency w ↦ asked-miss ns cs s.currency b n rest (ne_eqb _ _ (λ e. w.if-currency_among-currency.false (sym is ∙ e))) ∙ ap (λ (k : ℕ). asked ns cs s.currency k rest) (sym w.best-is)
     ] in
