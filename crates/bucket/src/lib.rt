@@ -38,10 +38,10 @@ fn list_read(rt: &impl Print, room: &[u8], n: usize) {
 }
 
 // Lists standard input, at most 65,536 bytes. Where a read fails nothing is listed, and standard output stays empty.
-pub fn list(rt: &(impl io::Input + Print + Eprint)) {
+pub fn list(rt: &(impl io::Input + Print), errors: &impl Print) {
     let mut room = [0; ROOM];
     match terminal::read_input(rt, &mut room) {
         Input::Read(n) => list_read(rt, &room, n),
-        Input::Failed => say_error(rt, "list_bucket: cannot read standard input\n"),
+        Input::Failed => say_error(errors, b"list_bucket: cannot read standard input\n"),
     }
 }

@@ -2,5 +2,5 @@
 #![tactic(auto)]
 
 fn main(rt: HostRuntime) {
-    log_console::check(&rt);
+    log_console::check(&rt, &rt.stderr());
 }

@@ -64,10 +64,10 @@ fn judge_read(rt: &impl Print, room: &[u8], n: usize) {
 }
 
 // Judges standard input, at most 65,536 bytes. Where a read fails nothing is judged, and standard output stays empty.
-pub fn judge(rt: &(impl io::Input + Print + Eprint)) {
+pub fn judge(rt: &(impl io::Input + Print), errors: &impl Print) {
     let mut room = [0; ROOM];
     match terminal::read_input(rt, &mut room) {
         Input::Read(n) => judge_read(rt, &room, n),
-        Input::Failed => say_error(rt, "judge: cannot read standard input\n"),
+        Input::Failed => say_error(errors, b"judge: cannot read standard input\n"),
     }
 }

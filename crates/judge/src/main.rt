@@ -2,5 +2,5 @@
 #![tactic(auto)]
 
 fn main(rt: HostRuntime) {
-    console::judge(&rt);
+    console::judge(&rt, &rt.stderr());
 }

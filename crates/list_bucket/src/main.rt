@@ -2,5 +2,5 @@
 #![tactic(auto)]
 
 fn main(rt: HostRuntime) {
-    bucket::list(&rt);
+    bucket::list(&rt, &rt.stderr());
 }

@@ -38,26 +38,31 @@ fn check_read(rt: &impl Print, trace: &[u8], n: usize, log: &[u8], k: usize) {
 }
 
 // Where a read fails nothing is checked, and standard output stays empty.
-fn check_open(rt: &(impl Print + Eprint), trace_file: &mut impl Read, log_file: &mut impl Read) {
+fn check_open(
+    rt: &impl Print,
+    errors: &impl Print,
+    trace_file: &mut impl Read,
+    log_file: &mut impl Read,
+) {
     let mut trace = [0; ROOM];
     let mut log = [0; ROOM];
     let Input::Read(n) = terminal::read_open(trace_file, &mut trace) else {
-        say_error(rt, "check_log: cannot read the trace\n");
+        say_error(errors, b"check_log: cannot read the trace\n");
         return;
     };
     let Input::Read(k) = terminal::read_open(log_file, &mut log) else {
-        say_error(rt, "check_log: cannot read the log\n");
+        say_error(errors, b"check_log: cannot read the log\n");
         return;
     };
     check_read(rt, &trace, n, &log, k);
 }
 
 // A file that is not there, or cannot be opened, is told before all else.
-pub fn check(rt: &(impl Files + Print + Eprint)) {
+pub fn check(rt: &(impl Files + Print), errors: &impl Print) {
     let trace_opened = File::open(rt, "trace");
     let log_opened = File::open(rt, "log");
     match (trace_opened, log_opened) {
-        (Ok(mut trace_file), Ok(mut log_file)) => check_open(rt, &mut trace_file, &mut log_file),
+        (Ok(mut trace_file), Ok(mut log_file)) => check_open(rt, errors, &mut trace_file, &mut log_file),
         _ => say(rt, b"no file\n"),
     }
 }

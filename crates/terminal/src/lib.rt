@@ -35,8 +35,8 @@ pub fn say_line(rt: &impl Print, text: &[u8], n: u64) {
 }
 
 // An error goes to standard error, so that standard output has only what the input says.
-pub fn say_error(rt: &impl Eprint, text: &str) {
-    let _ = rt.eprint(text);
+pub fn say_error(errors: &impl Print, text: &[u8]) {
+    say(errors, text);
 }
 
 // Reads a file that is open until it ends or the room is full, and answers how many bytes it put at the room's start; or
