@@ -62,7 +62,12 @@ pub fn check(rt: &(impl Files + Print), errors: &impl Print) {
     let trace_opened = File::open(rt, "trace");
     let log_opened = File::open(rt, "log");
     match (trace_opened, log_opened) {
-        (Ok(mut trace_file), Ok(mut log_file)) => check_open(rt, errors, &mut trace_file, &mut log_file),
+        (Ok(mut trace_file), Ok(mut log_file)) => check_open(
+            rt,
+            errors,
+            &mut trace_file,
+            &mut log_file,
+        ),
         _ => say(rt, b"no file\n"),
     }
 }
