@@ -153,6 +153,7 @@ fn read_rows(s: &[u8]) -> RowsRead
 }
 
 // Takes all the bytes lent as one image.
+#[inline(never)]
 pub fn read_image(bytes: &[u8]) -> ImageRead
     ensures { result ≡ read_of bytes.now }
 {

@@ -70,6 +70,7 @@ impl Ledger {
         rules::slot_row(slot, current.number)
     }
 
+    #[inline(never)]
     fn fence(mut self, time: u64, role: Role, slot: u64) -> StepAnswer
         requires { Admitted self time (FENCE role slot) [] }
         ensures { result ≡ ruled (Asked time (FENCE role slot) []) self }
@@ -124,6 +125,7 @@ impl Ledger {
         0
     }
 
+    #[inline(never)]
     fn put(mut self, time: u64, role: Role, epoch: u64, object: u64, currency: u16) -> StepAnswer
         requires { Admitted self time (PUT role epoch object currency) [] }
         ensures { result ≡ ruled (Asked time (PUT role epoch object currency) []) self }
@@ -170,6 +172,7 @@ impl Ledger {
         0
     }
 
+    #[inline(never)]
     fn commit(mut self, time: u64, epoch: u64, slot: u64, list: NameList) -> StepAnswer
         requires { (Admitted self time (COMMIT epoch slot) (names_of list)) × (is_padded list.count list.names ≡ true) }
         ensures { result ≡ ruled (Asked time (COMMIT epoch slot) (names_of list)) self }
@@ -215,6 +218,7 @@ impl Ledger {
         0
     }
 
+    #[inline(never)]
     fn compact(mut self, time: u64, epoch: u64, slot: u64, object: u64) -> StepAnswer
         requires { Admitted self time (COMPACT epoch slot object) [] }
         ensures { result ≡ ruled (Asked time (COMPACT epoch slot object) []) self }
@@ -256,6 +260,7 @@ impl Ledger {
         0
     }
 
+    #[inline(never)]
     fn hold(mut self, time: u64, hold: u64, manifest: u64, expiry: u64) -> StepAnswer
         requires { Admitted self time (HOLD hold manifest expiry) [] }
         ensures { result ≡ ruled (Asked time (HOLD hold manifest expiry) []) self }
@@ -291,6 +296,7 @@ impl Ledger {
         15
     }
 
+    #[inline(never)]
     fn renew(mut self, time: u64, hold: u64, expiry: u64) -> StepAnswer
         requires { Admitted self time (RENEW hold expiry) [] }
         ensures { result ≡ ruled (Asked time (RENEW hold expiry) []) self }
@@ -305,6 +311,7 @@ impl Ledger {
         accepted(Answer::Done, self)
     }
 
+    #[inline(never)]
     fn release(mut self, time: u64, hold: u64) -> StepAnswer
         requires { Admitted self time (RELEASE hold) [] }
         ensures { result ≡ ruled (Asked time (RELEASE hold) []) self }
@@ -335,6 +342,7 @@ impl Ledger {
         manifests.numbered(live.manifest_by(hold))
     }
 
+    #[inline(never)]
     fn list(mut self, time: u64, hold: u64) -> StepAnswer
         requires { Admitted self time (LIST hold) [] }
         ensures { result ≡ ruled (Asked time (LIST hold) []) self }
@@ -356,6 +364,7 @@ impl Ledger {
         }
     }
 
+    #[inline(never)]
     fn look(mut self, time: u64, currency: u16, hold: u64) -> StepAnswer
         requires { Admitted self time (LOOK currency hold) [] }
         ensures { result ≡ ruled (Asked time (LOOK currency hold) []) self }
@@ -430,6 +439,7 @@ impl Ledger {
     }
 
     // The verdict and the next ledger of any step on any ledger value.
+    #[inline(never)]
     pub fn step(self, step: Step) -> StepAnswer
         ensures { result ≡ step_of self step }
     {
