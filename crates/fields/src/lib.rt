@@ -14,6 +14,15 @@ pub enum Head {
     Bad,
 }
 
+// Why a writer refuses; it writes nothing then.
+#[derive(Clone, Copy, PartialEq, Eq)]
+pub enum WriteError {
+    // no reader takes what was to be written: the paper's number 2
+    Malformed,
+    // the room is short
+    Full,
+}
+
 // What stands at the front of a trace.
 #[derive(Clone, Copy)]
 pub enum Next {

@@ -1,4 +1,5 @@
 pub mod Lists
+pub mod Listed
 pub mod Numbers
 pub mod Table
 pub mod LastManifest
