@@ -51,9 +51,9 @@ pub padded-from : (count : ℕ) (l : List ℕ) → count ≤ length l → is_pad
 unfolding is_padded
 padded-from count l h = rw (le-leb count (length l) h)
 
-pub padded_room : (count : ℕ) (l : List ℕ) → is_padded count l ≡ true → count ≤ length l
+pub padded-room : (count : ℕ) (l : List ℕ) → is_padded count l ≡ true → count ≤ length l
 unfolding is_padded
-padded_room count l h = leb-true count (length l) (and_left (leb count (length l)) (all (eqb 0) (drop count l)) h)
+padded-room count l h = leb-true count (length l) (and_left (leb count (length l)) (all (eqb 0) (drop count l)) h)
 
 -- ---- zeros
 

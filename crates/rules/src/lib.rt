@@ -11,7 +11,7 @@ ghost use Rattle.rules.specs.Limits.{limits};
 ghost use Rattle.rules.specs.Table.{expiry_fits, well_formed};
 ghost use Rattle.rules.specs.Typed.{is_padded, request_of, can_say};
 
-pub use rows::{epoch_row, fence_row, slot_row};
+pub use rows::{Refusal, epoch_row, fence_row, slot_row};
 
 // The limits of documents 01 and 02, each named once: the bits of an occupancy word and the words, so the objects stored;
 // object numbers in a manifest; holds; kept manifests (each but the current one is held); the largest number of a currency.
@@ -30,14 +30,14 @@ pub const MANIFESTS: usize = HOLDS + 1;
 pub const LARGEST_CURRENCY: u16 = 999;
 
 // Who writes: the writer of sheets and batches, or the compactor that merges them.
-#[derive(Clone, Copy)]
+#[derive(Clone, Copy, PartialEq, Eq)]
 pub enum Role {
-    Writer,
-    Compactor,
+    Writer = 0,
+    Compactor = 1,
 }
 
 // What a step asks. COMMIT's list stands beside it, in the step.
-#[derive(Clone, Copy)]
+#[derive(Clone, Copy, PartialEq, Eq)]
 pub enum Kind {
     Fence {
         role: Role,
@@ -96,7 +96,7 @@ pub struct Step {
 }
 
 // What a step is answered. Listed and Collected have a list beside them.
-#[derive(Clone, Copy)]
+#[derive(Clone, Copy, PartialEq, Eq)]
 pub enum Answer {
     // turned away, with the number of the refusal table
     Refused(u8),
@@ -126,7 +126,7 @@ pub struct Verdict {
 }
 
 // A stored object. A free place is the one whose fields are all zero.
-#[derive(Clone, Copy)]
+#[derive(Clone, Copy, PartialEq, Eq)]
 pub struct Object {
     pub number: u64,
     pub role: Role,
@@ -138,7 +138,7 @@ pub struct Object {
 }
 
 // A hold keeps a manifest until it expires (a snapshot in source document 000). Expiry 0 is never.
-#[derive(Clone, Copy)]
+#[derive(Clone, Copy, PartialEq, Eq)]
 pub struct Hold {
     pub number: u64,
     pub manifest: u64,
@@ -199,7 +199,7 @@ fn is_formed(time: u64, kind: Kind, list: &[u64]) -> bool
 }
 
 // Whether a step is one that a record can say: row 2 of the refusal table does not apply.
-#[tactic(auto, using(crate::proofs::Typed::padded_room))]
+
 pub fn is_well_formed(step: Step) -> bool
     ensures { result ≡ can_say (request_of step) }
 {
