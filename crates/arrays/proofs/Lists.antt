@@ -9,6 +9,7 @@ use native.Mathlib.Omega.{arith}
 use native.Mathlib.Numerals.{add-one}
 use lib.ListN.{length, get_or, take, drop, set, replicate, length-append, length-take, length-replicate, length-map, take-append-drop, length-drop}
 use lib.Seq.{take_all, take-suc, set-append_seam, append_snoc, take-append_seam, length-take-le, drop-append-add, drop-append_seam}
+use Rattle.std.proofs.lemmas.List.{drop-replicate}
 use Rattle.rules.specs.Lists.{keep, any, all}
 use Rattle.rules.proofs.Lists.{and_left, and_right, and_both}
 use Rattle.arrays.specs.Arrays.{pad}
@@ -73,6 +74,11 @@ module _ {A : Type 0} where
       behind (suc k) [] (suc i) = behind k [] i
       behind k (x ∷ xs) zero = refl
       behind k (x ∷ xs) (suc i) = behind k xs i
+
+  -- a list laid over the front of n places that are all z
+  pub laid_over : (n : ℕ) (z : A) (xs : List A) → xs ++ drop (length xs) (replicate n z) ≡ pad n z xs
+  unfolding pad
+  laid_over n z xs = ap (λ (ys : List A). xs ++ ys) (drop-replicate (length xs) n z)
 
   pub pad-none : (n : ℕ) (z : A) → pad n z [] ≡ replicate n z
   unfolding pad

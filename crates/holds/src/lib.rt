@@ -1,7 +1,9 @@
 // The holds of a ledger (a hold is a snapshot in source document 000): at most eight, packed in rising number.
 #![tactic(auto)]
 
-ghost use Rattle.std.specs.Prelude.{◌≡◌, true, [], map, ◌≤◌, ◌<◌};
+ghost use Rattle.std.specs.Prelude.{◌≡◌, Bool, true, [], map, ◌≤◌, ◌<◌};
+ghost use Rattle.rules.specs.declared.Hold.{Hold};
+ghost use Rattle.arrays.specs.Arrays.{Tests};
 ghost use Rattle.rules.specs.Limits.{limits};
 ghost use Rattle.rules.specs.Lists.{keep, all, rising_above};
 ghost use Rattle.rules.specs.Words.{live};
@@ -174,27 +176,23 @@ impl Holds {
         0
     }
 
+    // The holds that pass the test.
+    fn retained<F: Fn(&Hold) -> bool>(self, keeps: F) -> Self
+        requires few { self.count ≤ limits.holds }
+        requires test { F.IsAlwaysCallable keeps }
+        ensures { (p : Hold → Bool) → Tests F.Fn p keeps → result ≡ lay_holds (keep p (holds_of self)) }
+    {
+        let mut next = Holds::none();
+        next.count = arrays::pack(&self.items[..self.count], keeps, &mut next.items);
+        next
+    }
+
     // The holds that are live at the time.
     pub fn live(self, time: u64) -> Self
         requires { self.count ≤ limits.holds }
         ensures { result ≡ lay_holds (keep (live time) (holds_of self)) }
     {
-        let mut next = Holds::none();
-        let count = self.count;
-        let mut n: usize = 0;
-        let mut items = next.items;
-        let mut i: usize = 0;
-        while i < count {
-            let h = self.items[i];
-            if is_live(time, h) {
-                items[n] = h;
-                n += 1;
-            }
-            i += 1;
-        }
-        next.count = n;
-        next.items = items;
-        next
+        self.retained(|hold| is_live(time, *hold))
     }
 
     // The holds but the one of this number.
@@ -202,22 +200,7 @@ impl Holds {
         requires { self.count ≤ limits.holds }
         ensures { result ≡ lay_holds (keep (other number) (holds_of self)) }
     {
-        let mut next = Holds::none();
-        let count = self.count;
-        let mut n: usize = 0;
-        let mut items = next.items;
-        let mut i: usize = 0;
-        while i < count {
-            let h = self.items[i];
-            if h.number != number {
-                items[n] = h;
-                n += 1;
-            }
-            i += 1;
-        }
-        next.count = n;
-        next.items = items;
-        next
+        self.retained(|hold| hold.number != number)
     }
 
     // The holds, with a new expiry for the one of this number.
