@@ -23,3 +23,7 @@ module _ {A : Type 0} (lt : A → A → Bool) where
 -- a closure at a reference answers what the test says of the value there
 abbrev pub Tests : {F X : Type 0} → Shared F (Bor X × Unit {0}) Bool → (X → Bool) → F → Type 0
 Tests {F} {X} g p f = (x : Bor X) (r : Bool) → g.post f (x, tt) r → r ≡ p x.now
+
+-- and at two
+abbrev pub TestsPair : {F X : Type 0} → Shared F (Bor X × (Bor X × Unit {0})) Bool → (X → X → Bool) → F → Type 0
+TestsPair {F} {X} g p f = (x y : Bor X) (r : Bool) → g.post f (x, (y, tt)) r → r ≡ p x.now y.now
