@@ -227,21 +227,10 @@ impl Holds {
         requires { (is_laid self ≡ true) × (self.count < limits.holds) × (rising_above 0 (numbers (holds_of self)) ≡ true) }
         ensures { result ≡ lay_holds (insert_hold hold (holds_of self)) }
     {
-        let count = self.count;
         let mut items = self.items;
-        let mut x = hold;
-        let mut i: usize = 0;
-        while i < count {
-            let y = items[i];
-            if x.number < y.number {
-                items[i] = x;
-                x = y;
-            }
-            i += 1;
-        }
-        items[count] = x;
+        arrays::insert(&mut items, self.count, hold, |a, b| a.number < b.number);
         Holds {
-            count: count + 1,
+            count: self.count + 1,
             items,
         }
     }
