@@ -23,6 +23,7 @@ fn list_sound(manifest: KeptManifest, named: &[u64]) -> bool
 }
 
 // Whether every kept list is sound.
+#[tactic(auto, using(manifests::proofs::Places::few), unfolding(rules::specs::Lists::all))]
 fn lists_sound(manifests: Manifests, objects: Objects) -> bool
     requires { manifests_laid manifests ≡ true }
     ensures { result ≡ all (list_sound objects.items) (take manifests.count manifests.items) }
