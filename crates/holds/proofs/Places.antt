@@ -8,7 +8,7 @@ use native.Mathlib.Omega.{arith}
 use borrow.Author.Tests.{leb-true, le-leb, eqb-true}
 use lib.Dec.{leb, ltb}
 use lib.Seq.{length-take-le}
-use lib.ListN.{length, length-map, replicate}
+use lib.ListN.{length, replicate}
 use mir.Val.{Val}
 use denote.Laws.{Is}
 use Rattle.rules.specs.declared.Hold.{Hold}
@@ -16,7 +16,6 @@ use Rattle.rules.specs.Limits.{limits}
 use Rattle.rules.specs.Lists.{conj, rising_above}
 use Rattle.rules.specs.Step.{insert_hold}
 use Rattle.rules.proofs.Lists.{and_left, and_right, and_both, conj-true}
-use Rattle.rules.specs.contracts.Hold as hold
 use Rattle.arrays.proofs.Lists.{pad-laid, laid-pad, take-pad}
 use Rattle.holds.specs.declared.Holds.{Holds}
 use Rattle.arrays.specs.Arrays.{pad, inserted_by}

@@ -66,8 +66,7 @@ impl Ledger {
         requires { is_sound self ≡ true }
         ensures { (t : ℕ) (who : Who) → row_of result ≡ row_behind (view self) t (FENCE who slot) [] }
     {
-        let manifests = self.manifests;
-        let current = manifests.current();
+        let current = self.manifests.current();
         rules::slot_row(slot, current.number)
     }
 
@@ -79,19 +78,16 @@ impl Ledger {
         if let Err(refusal) = self.fence_row(slot) {
             return refused(refusal, self);
         }
-        let manifests = self.manifests;
-        let current = manifests.current();
-        let count = current.count;
-        let names = current.names;
+        let current = self.manifests.current();
         match role {
             Role::Writer => {
                 let epoch = current.writer + 1;
-                self = self.published(time, epoch, current.compactor, count, names);
+                self = self.published(time, epoch, current.compactor, current.count, current.names);
                 accepted(Answer::Epoch(epoch), self)
             }
             Role::Compactor => {
                 let epoch = current.compactor + 1;
-                self = self.published(time, current.writer, epoch, count, names);
+                self = self.published(time, current.writer, epoch, current.count, current.names);
                 accepted(Answer::Epoch(epoch), self)
             }
         }
@@ -103,20 +99,18 @@ impl Ledger {
         requires { is_sound self ≡ true }
         ensures { (t c : ℕ) → row_of result ≡ row_behind (view self) t (PUT role epoch object c) [] }
     {
-        let manifests = self.manifests;
-        let current = manifests.current();
+        let current = self.manifests.current();
         rules::epoch_row(
             epoch,
             objects::epoch_of(role, current.writer, current.compactor),
         )?;
-        let objects = self.objects;
-        if objects.is_stored(object) {
+        if self.objects.is_stored(object) {
             return Err(Refusal::Stored);
         }
         if object <= self.collected {
             return Err(Refusal::Collected);
         }
-        if objects.is_full() {
+        if self.objects.is_full() {
             return Err(Refusal::Full);
         }
         Ok(())
@@ -138,8 +132,7 @@ impl Ledger {
             named: false,
         };
         self = self.settled(time);
-        let places = self.objects;
-        self.objects = places.put(o);
+        self.objects = self.objects.put(o);
         accepted(Answer::Done, self)
     }
 
@@ -149,14 +142,10 @@ impl Ledger {
         requires { (is_sound self ≡ true) × (list.count ≤ limits.names) }
         ensures { (t : ℕ) → row_of result ≡ row_behind (view self) t (COMMIT epoch slot) (names_of list) }
     {
-        let manifests = self.manifests;
-        let current = manifests.current();
+        let current = self.manifests.current();
         rules::fence_row(epoch, current.writer)?;
         rules::slot_row(slot, current.number)?;
-        let objects = self.objects;
-        let count = list.count;
-        let names = list.names;
-        if !objects.all_stored(&names[..count]) {
+        if !self.objects.all_stored(&list.names[..list.count]) {
             return Err(Refusal::NotStored);
         }
         Ok(())
@@ -170,11 +159,14 @@ impl Ledger {
         if let Err(refusal) = self.commit_row(epoch, slot, list) {
             return refused(refusal, self);
         }
-        let manifests = self.manifests;
-        let current = manifests.current();
-        let count = list.count;
-        let names = list.names;
-        self = self.published(time, current.writer, current.compactor, count, names);
+        let current = self.manifests.current();
+        self = self.published(
+            time,
+            current.writer,
+            current.compactor,
+            list.count,
+            list.names,
+        );
         accepted(Answer::Done, self)
     }
 
@@ -184,18 +176,18 @@ impl Ledger {
         requires { is_sound self ≡ true }
         ensures { (t : ℕ) → row_of result ≡ row_behind (view self) t (COMPACT epoch slot object) [] }
     {
-        let manifests = self.manifests;
-        let current = manifests.current();
+        let current = self.manifests.current();
         rules::fence_row(epoch, current.compactor)?;
         rules::slot_row(slot, current.number)?;
-        let objects = self.objects;
-        if !objects.is_stored(object) {
+        if !self.objects.is_stored(object) {
             return Err(Refusal::NotStored);
         }
-        let count = current.count;
-        let names = current.names;
-        let currency = objects.currency_of(object);
-        if objects.highest(currency, &names[..count]) == 0 {
+        let currency = self.objects.currency_of(object);
+        if self
+            .objects
+            .highest(currency, &current.names[..current.count])
+            == 0
+        {
             return Err(Refusal::NothingToCompact);
         }
         Ok(())
@@ -209,12 +201,15 @@ impl Ledger {
         if let Err(refusal) = self.compact_row(epoch, slot, object) {
             return refused(refusal, self);
         }
-        let manifests = self.manifests;
-        let current = manifests.current();
+        let current = self.manifests.current();
         let list = self.compacted(object);
-        let count = list.count;
-        let names = list.names;
-        self = self.published(time, current.writer, current.compactor, count, names);
+        self = self.published(
+            time,
+            current.writer,
+            current.compactor,
+            list.count,
+            list.names,
+        );
         accepted(Answer::Done, self)
     }
 
@@ -224,17 +219,13 @@ impl Ledger {
         requires { is_sound self ≡ true }
         ensures { (e : ℕ) → row_of result ≡ row_behind (view self) time (HOLD hold manifest e) [] }
     {
-        let holds = self.holds;
-        let live = holds.live(time);
+        let live = self.holds.live(time);
         if live.has_number(hold) {
             return Err(Refusal::HoldTaken);
         }
-        let manifests = self.manifests;
-        let current = manifests.current();
-        if manifest != current.number {
-            if !live.names_manifest(manifest) {
-                return Err(Refusal::NotActive);
-            }
+        let current = self.manifests.current();
+        if manifest != current.number && !live.names_manifest(manifest) {
+            return Err(Refusal::NotActive);
         }
         if Ledger::HOLDS <= live.count {
             return Err(Refusal::HoldsFull);
@@ -255,8 +246,7 @@ impl Ledger {
             manifest,
             expiry,
         };
-        let holds = self.holds;
-        let live = holds.live(time);
+        let live = self.holds.live(time);
         self = self.holding(time, live.insert(new));
         accepted(Answer::Done, self)
     }
@@ -266,12 +256,7 @@ impl Ledger {
         requires { is_sound self ≡ true }
         ensures { row_of result ≡ first_of ((15 if row15 (view self) time hold) ∷ []) }
     {
-        if hold == 0 {
-            return Ok(());
-        }
-        let holds = self.holds;
-        let live = holds.live(time);
-        if live.has_number(hold) {
+        if hold == 0 || self.holds.live(time).has_number(hold) {
             return Ok(());
         }
         Err(Refusal::NotLive)
@@ -285,8 +270,7 @@ impl Ledger {
         if let Err(refusal) = self.live_row(time, hold) {
             return refused(refusal, self);
         }
-        let holds = self.holds;
-        let live = holds.live(time);
+        let live = self.holds.live(time);
         self = self.holding(time, live.renew(hold, expiry));
         accepted(Answer::Done, self)
     }
@@ -299,8 +283,7 @@ impl Ledger {
         if let Err(refusal) = self.live_row(time, hold) {
             return refused(refusal, self);
         }
-        let holds = self.holds;
-        let live = holds.live(time);
+        let live = self.holds.live(time);
         self = self.holding(time, live.release(hold));
         accepted(Answer::Done, self)
     }
@@ -312,13 +295,11 @@ impl Ledger {
         requires { is_sound self ≡ true }
         ensures { result ≡ lay_manifest (read_by time (view self) hold) }
     {
-        let manifests = self.manifests;
         if hold == 0 {
-            return manifests.current();
+            return self.manifests.current();
         }
-        let holds = self.holds;
-        let live = holds.live(time);
-        manifests.numbered(live.manifest_by(hold))
+        let live = self.holds.live(time);
+        self.manifests.numbered(live.manifest_by(hold))
     }
 
     #[inline(never)]
@@ -330,11 +311,12 @@ impl Ledger {
             return refused(refusal, self);
         }
         let m = self.read_by(time, hold);
-        let count = m.count;
-        let names = m.names;
-        let list = object_list(&names[..count]);
-        let answer = Answer::Listed(m.number);
-        let verdict = Verdict { answer, list };
+        let names = &m.names[..m.count];
+        let list = object_list(names);
+        let verdict = Verdict {
+            answer: Answer::Listed(m.number),
+            list,
+        };
         self = self.settled(time);
         StepAnswer {
             verdict,
@@ -351,10 +333,8 @@ impl Ledger {
             return refused(refusal, self);
         }
         let m = self.read_by(time, hold);
-        let count = m.count;
-        let names = m.names;
-        let objects = self.objects;
-        let found = objects.highest(currency, &names[..count]);
+        let names = &m.names[..m.count];
+        let found = self.objects.highest(currency, names);
         if found == 0 {
             return refused(Refusal::NoObject, self);
         }
@@ -385,9 +365,7 @@ impl Ledger {
         ensures { result ≡ ruled (Asked step.time step.kind (names_of step.list)) self }
     {
         let time = step.time;
-        let list = step.list;
-        let kind = step.kind;
-        match kind {
+        match step.kind {
             Kind::Fence { role, slot } => self.fence(time, role, slot),
             Kind::Put {
                 role,
@@ -395,7 +373,7 @@ impl Ledger {
                 object,
                 currency,
             } => self.put(time, role, epoch, object, currency),
-            Kind::Commit { epoch, slot } => self.commit(time, epoch, slot, list),
+            Kind::Commit { epoch, slot } => self.commit(time, epoch, slot, step.list),
             Kind::Compact {
                 epoch,
                 slot,

@@ -1,6 +1,5 @@
 use mathlib.Core.Path.{◌≡◌, sym, ◌∙◌}
 use mathlib.Core.Bool.{false}
-use Prim.Native.Nat.{◌-◌}
 use native.Mathlib.Omega.{arith}
 use Rattle.rules.specs.Lists.{all}
 use Rattle.arrays.proofs.Scan.{scan_next, scan_stop, scan_end, all_hit, all-miss}

@@ -1,4 +1,3 @@
-use Prim.Native.Nat.{◌-◌}
 use native.Mathlib.Omega.{arith}
 use Rattle.arrays.proofs.Lists.{filled_next}
 use Rattle.holds.specs.Holds.{no_hold}

@@ -1,4 +1,4 @@
-use Rattle.std.proofs.Common.{◌∙◌, ap, ◌++◌, drop, length, List, take}
+use Rattle.std.proofs.Common.{◌∙◌, ap, ◌++◌, drop, length, List}
 use Rattle.rules.specs.declared.Hold.{Hold}
 use Rattle.rules.specs.Lists.{keep}
 use Rattle.arrays.proofs.Lists.{laid_over}

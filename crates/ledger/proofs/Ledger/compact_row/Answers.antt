@@ -5,6 +5,7 @@ use mathlib.Core.Bool.{cond, true, false}
 use mathlib.Core.List.{[], ◌∷◌}
 use Prim.Native.Nat.{ℕ, ◌≤◌}
 use borrow.Author.Tests.{eq-eqb, ne_eqb}
+use native.Mathlib.Omega.{arith}
 use lib.Dec.{eqb}
 use lib.ListN.{length, take}
 use lib.Seq.{length-take-le}
@@ -91,8 +92,8 @@ room c =
     let l = st.args.self in
     padded-room _ _ (ap (λ (m : KeptManifest). is_padded m.count m.names) c.current-current.ensures ∙ current-padded l st.requires (sized l _ st.well_formed.0))
 
-pub slice_bounds-names-end : goal.slice_bounds-names-end
-slice_bounds-names-end c = room (goal.at.slice_bounds-names-end c).After-current-current
+pub shared_ref_as_front-highest : goal.shared_ref_as_front-highest
+shared_ref_as_front-highest c = omega (arith, room (goal.at.shared_ref_as_front-highest c).After-current-current)
 
 pub slice_bounds-highest-end : goal.slice_bounds-highest-end
 slice_bounds-highest-end c =

@@ -2,6 +2,7 @@
 -- Assumes nothing.
 use mathlib.Core.Path.{refl, sym, ◌∙◌}
 use mathlib.Core.List.{[]}
+use native.Mathlib.Omega.{arith}
 use lib.Seq.{length-take-le}
 use Rattle.rules.specs.declared.Kind.TheVariants.{List as LIST}
 use Rattle.ledger.specs.Ledger.{view}
@@ -19,14 +20,12 @@ returns-in-Err c =
     c.refused.ensures
     ∙ turned_away s.self s.time (LIST s.hold) [] st.requires _ (w.in-Err.ensures ∙ sym (live-rows (view s.self) s.time s.hold 0).2) (not_0 c.in-Err.refusal)
 
+pub shared_ref_as_front-names : goal.shared_ref_as_front-names
+shared_ref_as_front-names c =
+    omega (arith, read-room c.args.self c.requires.is_sound c.args.time c.args.hold c.read_by-m.ensures)
+
 pub slice_bounds-names-end : goal.slice_bounds-names-end
 slice_bounds-names-end c =
-    let m = c in
-    let st = c in
-    read-room st.args.self st.requires.is_sound st.args.time st.args.hold m.read_by-m.ensures
-
-pub slice_bounds-object_list-end : goal.slice_bounds-object_list-end
-slice_bounds-object_list-end c =
     let m = c in
     let st = c in
     sym (length-take-le _ _ (read-room st.args.self st.requires.is_sound st.args.time st.args.hold m.read_by-m.ensures))

@@ -20,14 +20,12 @@ returns-in-Err c =
     ∙ turned_away s.self s.time (LOOK s.currency s.hold) [] st.requires _
     (look_away (view s.self) s.time s.currency s.hold _ w.in-Err.ensures (not_0 c.in-Err.refusal)) (not_0 c.in-Err.refusal)
 
+pub shared_ref_as_front-names : goal.shared_ref_as_front-names
+shared_ref_as_front-names c =
+    omega (arith, read-room c.args.self c.requires.is_sound c.args.time c.args.hold c.read_by-m.ensures)
+
 pub slice_bounds-names-end : goal.slice_bounds-names-end
 slice_bounds-names-end c =
-    let m = c in
-    let st = c in
-    read-room st.args.self st.requires.is_sound st.args.time st.args.hold m.read_by-m.ensures
-
-pub slice_bounds-highest-end : goal.slice_bounds-highest-end
-slice_bounds-highest-end c =
     let m = c in
     let st = c in
     sym (length-take-le _ _ (read-room st.args.self st.requires.is_sound st.args.time st.args.hold m.read_by-m.ensures))

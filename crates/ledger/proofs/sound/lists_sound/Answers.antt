@@ -3,7 +3,7 @@ use mathlib.Core.Bool.{Bool, true, ◌&&◌}
 use mathlib.Core.List.{List}
 use Prim.Native.Nat.{ℕ, ◌<◌}
 use native.Mathlib.Omega.{arith}
-use lib.ListN.{length, take}
+use lib.ListN.{take}
 use lib.Seq.{length-take-le, get_or-take}
 use Rattle.rules.specs.declared.Object.{Object}
 use Rattle.rules.specs.Lists.{all, conj, rising_above}

@@ -1,6 +1,6 @@
 -- `object_list` meets its contract: a list laid over places that are all 0.
 -- Assumes nothing.
-use Rattle.std.proofs.Common.{arith, sym, ap, ◌∙◌, ◌++◌, drop, length, List, replicate}
+use Rattle.std.proofs.Common.{sym, ap, ◌∙◌, ◌++◌, drop, length, List, replicate}
 use Prim.Native.Nat.{ℕ}
 use Rattle.rules.specs.Limits.{limits}
 use Rattle.arrays.proofs.Lists.{laid_over}
