@@ -8,8 +8,8 @@ use native.Mathlib.Numerals.{add-one}
 use native.Mathlib.Omega.{arith}
 use lib.Arith.{digits_div, digits_mod, mod-mul}
 use lib.Dec.{lit<}
-use lib.ListN.{length, get_or, set, take, drop, drop_of_length-le, length-append, length-drop}
-use lib.Seq.{take-suc, drop-cons, drop-drop, set_split, take_at, drop_at, take-add, get_or-drop, length-take-le}
+use lib.ListN.{length, get_or, take, drop, drop_of_length-le, length-append, length-drop}
+use lib.Seq.{take-suc, drop-cons, drop-drop, take_at, drop_at, take-add, get_or-drop, length-take-le}
 use Rattle.std.specs.Int.{byte_at, bytes_high_first}
 use Rattle.fields.specs.Bytes.{be, value_from, value_of, kept64, words, words_of}
 
@@ -153,11 +153,6 @@ kept_byte n b h = omega arith
 pub value_more : (l : List ℕ) (i : ℕ) → i < length l → value_of (take (i + 1) l) ≡ value_of (take i l) * 256 + get_or l i 0
 unfolding value_from
 value_more l i h = rw (add-one, take-suc l i 0 h, value-append)
-
--- ---- a byte stored at the front of what is left
-
-pub drop-set : (l : List ℕ) (i v : ℕ) → i < length l → drop i (set l i v) ≡ v ∷ drop (i + 1) l
-drop-set l i v h = rw (set_split l i v h, add-one) (drop_at (take i l) (v ∷ drop (suc i) l) i (length-take-le i l (omega arith)))
 
 -- ---- numbers of eight bytes
 

@@ -1,8 +1,8 @@
 // The inner fields, a function for each tag, and a record's fields in their places.
-ghost use Rattle.std.specs.Prelude.{◌≡◌, [], ◌∷◌};
+ghost use Rattle.std.specs.Prelude.{◌≡◌, ◌≤◌};
 ghost use Rattle.records.specs.Format.{inner as innerField, code as codeField, time as timeField, role as roleField, epoch as epochField, slot as slotField, object as objectField, currency as currencyField, list as listField, hold as holdField, manifest as manifestField, expiry as expiryField, in_places};
 
-use crate::{Field, Fields};
+use crate::{FIELDS, Field, Fields};
 use rules::Role;
 
 fn inner(tag: u8, width: usize, number: u64) -> Field
@@ -80,62 +80,12 @@ pub fn expiry(e: u64) -> Field
     inner(0x0A, 8, e)
 }
 
-pub fn one(a: Field) -> Fields
-    ensures { result ≡ in_places (a ∷ []) }
+// A record of these fields.
+pub fn fields_of<const N: usize>(first: [Field; N]) -> Fields
+    requires { N ≤ FIELDS }
+    ensures { result ≡ in_places first.entry }
 {
-    let z = Field {
-        tag: 0,
-        width: 0,
-        number: 0,
-    };
-    let items = [a, z, z, z, z, z];
-    Fields { count: 1, items }
-}
-
-pub fn two(a: Field, b: Field) -> Fields
-    ensures { result ≡ in_places (a ∷ b ∷ []) }
-{
-    let z = Field {
-        tag: 0,
-        width: 0,
-        number: 0,
-    };
-    let items = [a, b, z, z, z, z];
-    Fields { count: 2, items }
-}
-
-pub fn three(a: Field, b: Field, c: Field) -> Fields
-    ensures { result ≡ in_places (a ∷ b ∷ c ∷ []) }
-{
-    let z = Field {
-        tag: 0,
-        width: 0,
-        number: 0,
-    };
-    let items = [a, b, c, z, z, z];
-    Fields { count: 3, items }
-}
-
-pub fn four(a: Field, b: Field, c: Field, d: Field) -> Fields
-    ensures { result ≡ in_places (a ∷ b ∷ c ∷ d ∷ []) }
-{
-    let z = Field {
-        tag: 0,
-        width: 0,
-        number: 0,
-    };
-    let items = [a, b, c, d, z, z];
-    Fields { count: 4, items }
-}
-
-pub fn five(a: Field, b: Field, c: Field, d: Field, e: Field) -> Fields
-    ensures { result ≡ in_places (a ∷ b ∷ c ∷ d ∷ e ∷ []) }
-{
-    let z = Field {
-        tag: 0,
-        width: 0,
-        number: 0,
-    };
-    let items = [a, b, c, d, e, z];
-    Fields { count: 5, items }
+    let mut items = [inner(0, 0, 0); FIELDS];
+    items[..N].copy_from_slice(&first);
+    Fields { count: N, items }
 }

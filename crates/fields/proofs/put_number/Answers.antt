@@ -1,6 +1,7 @@
 use Rattle.std.proofs.Common.{◌≡◌, ◌+◌, ◌-◌, ◌%◌, append_assoc, arith}
+use Rattle.std.proofs.lemmas.List.{drop-set}
 use Rattle.fields.specs.Bytes.{be}
-use Rattle.fields.proofs.Bytes.{be-last, drop-set, high_first}
+use Rattle.fields.proofs.Bytes.{be-last, high_first}
 use Rattle.fields.proofs.put_number.Goals as goal
 
 pub returns-then-out-eq8 : goal.returns-then-out-eq8
