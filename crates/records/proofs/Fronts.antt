@@ -7,7 +7,7 @@ use mathlib.Core.List.{List, ◌∷◌}
 use Prim.Native.Nat.{ℕ, ◌+◌, ◌-◌, ◌/◌, ◌%◌, ◌≤◌}
 use native.Mathlib.Omega.{arith}
 use lib.Dec.{leb, eqb}
-use lib.ListN.{length, take, drop, length-drop}
+use lib.ListN.{length, take, drop}
 use borrow.Author.Tests.{le-leb, eq-eqb, ne_eqb, leb-true, leb-false, eqb-true, eqb-false}
 use Rattle.fields.specs.declared.Next.{Next}
 use Rattle.fields.specs.declared.Next.TheVariants.{End, Torn, Record}
@@ -46,16 +46,6 @@ whole_next_lem bs = sum_test (claimed bs) (length bs) ∙ by (leb (3 + claimed b
     by false false e z =
         let short = leb-false (3 + claimed bs) (length bs) e in
         rw (next-torn bs (omega (arith, eqb-false (length bs) 0 z)) short) (ne_eqb (3 + claimed bs) (length bs) (omega arith))
-
--- the same behind the first bytes
-pub whole-behind : (a : ℕ) (bs : List ℕ) → a ≤ length bs → is_whole (drop a bs) ≡ eqb (a + 3 + claimed (drop a bs)) (length bs)
-whole-behind a bs h = sum_test (claimed (drop a bs)) (length (drop a bs)) ∙ bool_ext (eqb (3 + claimed (drop a bs)) (length (drop a bs))) (eqb (a + 3 + claimed (drop a bs)) (length bs)) there back
-  where
-    there : eqb (3 + claimed (drop a bs)) (length (drop a bs)) ≡ true → eqb (a + 3 + claimed (drop a bs)) (length bs) ≡ true
-    there e = eq-eqb (a + 3 + claimed (drop a bs)) (length bs) (omega (arith, eqb-true (3 + claimed (drop a bs)) (length (drop a bs)) e, length-drop a bs))
-
-    back : eqb (a + 3 + claimed (drop a bs)) (length bs) ≡ true → eqb (3 + claimed (drop a bs)) (length (drop a bs)) ≡ true
-    back e = eq-eqb (3 + claimed (drop a bs)) (length (drop a bs)) (omega (arith, eqb-true (a + 3 + claimed (drop a bs)) (length bs) e, length-drop a bs))
 
 -- ---- the field that a walk comes to
 
