@@ -9,7 +9,7 @@ mod writing;
 // Why a writer refuses.
 pub use fields::WriteError;
 // For records of crates above: fields of the table, and what reads and writes any record.
-pub use format::{code, currency, epoch, fields_of, list, manifest, object};
+pub use format::{CODE, CURRENCY, EPOCH, LIST, MANIFEST, OBJECT, Tag, fields_of, role_number};
 pub use steps::{read_step, role_from, write_step};
 pub use walking::{is_whole, walk as walk_fields};
 pub use writing::write_record;

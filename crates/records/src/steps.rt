@@ -6,7 +6,7 @@ ghost use Rattle.records.specs.Steps.{outer_tag, fields_of, role_of, kind_from, 
 ghost use Rattle.records.specs.Writing.{step_writing};
 
 use crate::format::{
-    currency, epoch, expiry, fields_of, hold, list, manifest, object, role, slot, time,
+    CURRENCY, EPOCH, EXPIRY, HOLD, LIST, MANIFEST, OBJECT, ROLE, SLOT, TIME, fields_of, role_number,
 };
 use crate::walking::{is_whole, walk};
 use crate::writing::write_record;
@@ -35,33 +35,37 @@ fn outer_tag(kind: Kind) -> u8
 fn step_fields(at: u64, kind: Kind) -> Fields
     ensures { result ≡ in_places (fields_of at kind) }
 {
-    let t = time(at);
+    let t = TIME.of(at);
     match kind {
-        Kind::Fence { role: r, slot: n } => fields_of([t, role(r), slot(n)]),
+        Kind::Fence { role, slot } => fields_of([t, ROLE.of(role_number(role)), SLOT.of(slot)]),
         Kind::Put {
-            role: r,
-            epoch: e,
-            object: n,
-            currency: c,
-        } => fields_of([t, role(r), epoch(e), object(n), currency(c)]),
-        Kind::Commit { epoch: e, slot: n } => fields_of([t, epoch(e), slot(n), list()]),
+            role,
+            epoch,
+            object,
+            currency,
+        } => fields_of([
+            t,
+            ROLE.of(role_number(role)),
+            EPOCH.of(epoch),
+            OBJECT.of(object),
+            CURRENCY.of(u64::from(currency)),
+        ]),
+        Kind::Commit { epoch, slot } => fields_of([t, EPOCH.of(epoch), SLOT.of(slot), LIST.of(0)]),
         Kind::Compact {
-            epoch: e,
-            slot: n,
-            object: o,
-        } => fields_of([t, epoch(e), slot(n), object(o)]),
+            epoch,
+            slot,
+            object,
+        } => fields_of([t, EPOCH.of(epoch), SLOT.of(slot), OBJECT.of(object)]),
         Kind::Hold {
-            hold: x,
-            manifest: m,
-            expiry: e,
-        } => fields_of([t, hold(x), manifest(m), expiry(e)]),
-        Kind::Renew { hold: x, expiry: e } => fields_of([t, hold(x), expiry(e)]),
-        Kind::Release { hold: x } => fields_of([t, hold(x)]),
-        Kind::List { hold: x } => fields_of([t, hold(x)]),
-        Kind::Look {
-            currency: c,
-            hold: x,
-        } => fields_of([t, currency(c), hold(x)]),
+            hold,
+            manifest,
+            expiry,
+        } => fields_of([t, HOLD.of(hold), MANIFEST.of(manifest), EXPIRY.of(expiry)]),
+        Kind::Renew { hold, expiry } => fields_of([t, HOLD.of(hold), EXPIRY.of(expiry)]),
+        Kind::Release { hold } | Kind::List { hold } => fields_of([t, HOLD.of(hold)]),
+        Kind::Look { currency, hold } => {
+            fields_of([t, CURRENCY.of(u64::from(currency)), HOLD.of(hold)])
+        }
         Kind::Collect => fields_of([t]),
     }
 }

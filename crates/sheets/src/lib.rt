@@ -3,9 +3,9 @@
 
 ghost use Rattle.std.specs.Prelude.{◌≡◌};
 ghost use Rattle.records.specs.Format.{in_places};
-ghost use Rattle.sheets.specs.Sheets.{numerator as numeratorField, denominator as denominatorField, sheet_fields, is_rate, sheet_formed, sheet_from, formed, decode_sheet, sheet_writing};
+ghost use Rattle.sheets.specs.Sheets.{sheet_fields, is_rate, sheet_formed, sheet_from, formed, decode_sheet, sheet_writing};
 
-use records::{FIELDS, Field, Fields, WriteError};
+use records::{CURRENCY, FIELDS, Fields, OBJECT, Tag, WriteError};
 
 const SHEET_TAG: u8 = 0x50;
 
@@ -26,34 +26,18 @@ pub struct Sheet {
 
 // The format
 
-fn numerator(n: u64) -> Field
-    ensures { result ≡ numeratorField n }
-{
-    Field {
-        tag: 0x0C,
-        width: 8,
-        number: n,
-    }
-}
+const NUMERATOR: Tag = Tag(0x0C, 8);
 
-fn denominator(n: u64) -> Field
-    ensures { result ≡ denominatorField n }
-{
-    Field {
-        tag: 0x0D,
-        width: 8,
-        number: n,
-    }
-}
+const DENOMINATOR: Tag = Tag(0x0D, 8);
 
 fn sheet_fields(s: Sheet) -> Fields
     ensures { result ≡ in_places (sheet_fields s) }
 {
     records::fields_of([
-        records::object(s.object),
-        records::currency(s.currency),
-        numerator(s.numerator),
-        denominator(s.denominator),
+        OBJECT.of(s.object),
+        CURRENCY.of(u64::from(s.currency)),
+        NUMERATOR.of(s.numerator),
+        DENOMINATOR.of(s.denominator),
     ])
 }
 

@@ -7,7 +7,7 @@ ghost use Rattle.records.specs.Found.{found_by};
 ghost use Rattle.verdicts.specs.Verdicts.{verdict_fields, rising_list, verdict_formed, shape_of, code_alone, answer_from, is_alone, reply_of_walk, decode_verdict, verdict_read, verdict_writing};
 
 use records::{
-    FIELDS, Fields, Walk, WriteError, code, epoch, fields_of, is_whole, list, manifest, object,
+    CODE, EPOCH, FIELDS, Fields, LIST, MANIFEST, OBJECT, Walk, WriteError, fields_of, is_whole,
     walk_fields, write_record,
 };
 use rules::{Answer, NAMES, ObjectList, PLACES, Verdict};
@@ -25,13 +25,14 @@ const LAST_ROW: u8 = 17;
 fn verdict_fields(answer: Answer) -> Fields
     ensures { result ≡ in_places (verdict_fields answer) }
 {
+    let accepted = CODE.of(0);
     match answer {
-        Answer::Refused(n) => fields_of([code(n)]),
-        Answer::Done => fields_of([code(0)]),
-        Answer::Epoch(e) => fields_of([code(0), epoch(e)]),
-        Answer::Listed(m) => fields_of([code(0), list(), manifest(m)]),
-        Answer::Found(n) => fields_of([code(0), object(n)]),
-        Answer::Collected => fields_of([code(0), list()]),
+        Answer::Refused(n) => fields_of([CODE.of(u64::from(n))]),
+        Answer::Done => fields_of([accepted]),
+        Answer::Epoch(e) => fields_of([accepted, EPOCH.of(e)]),
+        Answer::Listed(m) => fields_of([accepted, LIST.of(0), MANIFEST.of(m)]),
+        Answer::Found(n) => fields_of([accepted, OBJECT.of(n)]),
+        Answer::Collected => fields_of([accepted, LIST.of(0)]),
     }
 }
 

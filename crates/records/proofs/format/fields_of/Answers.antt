@@ -9,4 +9,4 @@ returns g c =
     let n = g.row.N in
     let put = c.copy_from_slice.ensures in
     let long : length c.args.first ≡ n = omega (arith, ap length put.after, simp length-take at put.len, c.requires) in
-    rw (put.after, c.inner-items.ensures) (fields_filled n c.args.first long)
+    rw put.after (fields_filled n c.args.first long)
