@@ -1,15 +1,14 @@
--- What the reader's tests say of the definition; the fields of a sheet stand in their places; and what is read is well formed.
+-- What the reader's tests say of the definition, and that what is read is well formed.
 -- Assumes nothing.
 use Rattle.std.proofs.Common.{Option, Some, None}
 use mathlib.Core.Path.{◌≡◌, refl, subst}
 use mathlib.Core.Bool.{true, false, ◌&&◌, and-false}
 use mathlib.Core.List.{List}
 use Prim.Native.Nat.{ℕ, ◌-◌}
-use lib.Dec.{eqb, lit≤}
+use lib.Dec.{eqb}
 use lib.ListN.{length, drop, get_or}
-use Rattle.rules.specs.Lists.{all}
-use Rattle.records.specs.Format.{most_fields, in_places}
-use Rattle.records.specs.Found.{Placed, is_whole, placed_all}
+use Rattle.records.specs.Format.{most_fields}
+use Rattle.records.specs.Found.{is_whole, placed_all}
 use Rattle.records.specs.Walk.{Walked, Found, Broken, walk}
 use Rattle.records.proofs.Places.{padded_get}
 use Rattle.records.proofs.RoundTripRecords.{picked}
@@ -27,10 +26,6 @@ decode-other bs e = rw (e, and-false (is_whole bs))
 pub decode-whole : (bs : List ℕ) → is_whole bs ≡ true → eqb (get_or bs 0 0) sheet_tag ≡ true → decode_sheet bs ≡ sheet_of_walk (walk (sheet_fields blank_sheet) (drop 3 bs))
 unfolding decode_sheet
 decode-whole bs e t = rw (e, t)
-
-pub fields_placed : (s : Sheet) → Placed (in_places (sheet_fields s))
-unfolding all
-fields_placed s = record { places = refl; within = lit≤ tt; narrow = refl }
 
 -- numbers in their places say what they say
 pub sheet_placed : (w : Walked) → sheet_of_walk (placed_all w) ≡ sheet_of_walk w

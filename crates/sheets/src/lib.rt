@@ -2,7 +2,7 @@
 #![tactic(auto)]
 
 ghost use Rattle.std.specs.Prelude.{◌≡◌};
-ghost use Rattle.records.specs.Format.{in_places};
+ghost use Rattle.records.specs.Found.{fields_in};
 ghost use Rattle.sheets.specs.Sheets.{sheet_fields, is_rate, sheet_formed, sheet_from, formed, decode_sheet, sheet_writing};
 
 use records::{CURRENCY, FIELDS, Fields, OBJECT, Tag, WriteError};
@@ -30,8 +30,9 @@ const NUMERATOR: Tag = Tag(0x0C, 8);
 
 const DENOMINATOR: Tag = Tag(0x0D, 8);
 
+#[tactic(auto, unfolding(rules::specs::Lists::all))]
 fn sheet_fields(s: Sheet) -> Fields
-    ensures { result ≡ in_places (sheet_fields s) }
+    ensures { fields_in result ≡ sheet_fields s }
 {
     records::fields_of([
         OBJECT.of(s.object),

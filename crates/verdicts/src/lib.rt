@@ -2,8 +2,7 @@
 #![tactic(auto)]
 
 ghost use Rattle.std.specs.Prelude.{◌≡◌, ◌||◌, ◌+◌, ◌*◌, ◌≤◌, eqb, length};
-ghost use Rattle.records.specs.Format.{in_places};
-ghost use Rattle.records.specs.Found.{found_by};
+ghost use Rattle.records.specs.Found.{fields_in, found_by};
 ghost use Rattle.verdicts.specs.Verdicts.{verdict_fields, rising_list, verdict_formed, shape_of, code_alone, answer_from, is_alone, reply_of_walk, decode_verdict, verdict_read, verdict_writing};
 
 use records::{
@@ -22,8 +21,9 @@ const VERDICT_TAG: u8 = 0x40;
 // stays: `Answer::Refused` holds a number, as `write_verdict` promises its answer for every number.
 const LAST_ROW: u8 = 17;
 
+#[tactic(auto, unfolding(rules::specs::Lists::all))]
 fn verdict_fields(answer: Answer) -> Fields
-    ensures { result ≡ in_places (verdict_fields answer) }
+    ensures { fields_in result ≡ verdict_fields answer }
 {
     let accepted = CODE.of(0);
     match answer {

@@ -3,11 +3,10 @@
 use Rattle.std.proofs.Common.{◌≡◌, ◌∙◌, ◌-◌, length, take, drop, get_or, sym, ap, ap₂}
 use Rattle.std.proofs.lemmas.List.{take_rest}
 use borrow.Author.Tests.{eq-eqb, ne_eqb}
-use Rattle.records.specs.Found.{fields_in, found_by, placed_all}
+use Rattle.records.specs.Found.{found_by, placed_all}
 use Rattle.records.specs.Walk.{walk}
-use Rattle.records.proofs.Tables.{fields_in_lem}
 use Rattle.sheets.specs.Sheets.{sheet_tag, sheet_fields, blank_sheet, sheet_of_walk, decode_sheet}
-use Rattle.sheets.proofs.Reading.{decode-torn, decode-other, decode-whole, fields_placed, sheet_placed}
+use Rattle.sheets.proofs.Reading.{decode-torn, decode-other, decode-whole, sheet_placed}
 use Rattle.sheets.proofs.read_sheet.Goals.{After-walk, then-not-is_whole-via-then-not-is_whole, then-not-is_whole-via-else-not-is_whole+then-bytes-ne-SHEET_TAG}
 use Rattle.sheets.proofs.read_sheet.Goals as goal
 
@@ -19,16 +18,12 @@ returns-then-not-is_whole c =
       | then-not-is_whole-via-else-not-is_whole+then-bytes-ne-SHEET_TAG w ↦ sym (decode-other bs (ne_eqb (get_or bs 0 0) sheet_tag w.if-bytes-ne-SHEET_TAG.true))
     ]
 
-pub walk-requires : goal.walk-requires
-walk-requires c = rw c.sheet_fields.ensures (fields_placed blank_sheet)
-
 -- what the walk finds says the sheet that the bytes are
 walked : (c : After-walk) → let bs = c.args.bytes.now in sheet_of_walk (found_by c.walk.result (take (length bs - 3) (drop 3 bs))) ≡ decode_sheet bs
 walked c =
     let bs = c.args.bytes.now in
-    let fields = ap fields_in c.sheet_fields.ensures ∙ fields_in_lem (sheet_fields blank_sheet) in
     let decoded = decode-whole bs (sym c.is_whole.ensures ∙ c.if-not-is_whole.false) (eq-eqb (get_or bs 0 0) sheet_tag c.if-bytes-ne-SHEET_TAG.false) in
-    ap sheet_of_walk (c.walk.ensures.found ∙ ap placed_all (ap₂ walk fields (take_rest bs 3))) ∙ sheet_placed (walk (sheet_fields blank_sheet) (drop 3 bs)) ∙ sym decoded
+    ap sheet_of_walk (c.walk.ensures.found ∙ ap placed_all (ap₂ walk c.sheet_fields.ensures (take_rest bs 3))) ∙ sheet_placed (walk (sheet_fields blank_sheet) (drop 3 bs)) ∙ sym decoded
 
 pub returns-in_err-w : goal.returns-in_err-w
 returns-in_err-w c = c.from_residual.ensures ∙ rw c.in_err-w.was at (walked (goal.at.returns-in_err-w c).After-walk)

@@ -3,7 +3,6 @@
 use Rattle.std.proofs.Common.{◌≡◌, length, length-take, sym, arith, rules}
 use Rattle.rules.specs.Limits.{limits}
 use Rattle.rules.proofs.Typed.{padded-room}
-use Rattle.verdicts.proofs.Tables.{verdict_placed}
 use Rattle.verdicts.proofs.write_verdict.Goals as goal
 
 pub shared_ref_as_front-objects : goal.shared_ref_as_front-objects
@@ -16,4 +15,4 @@ pub write_record-requires : goal.write_record-requires
 write_record-requires c =
     let list = c.args.verdict.list in
     let long : length list.objects ≡ limits.places = search rules in
-    (rw c.verdict_fields.ensures (verdict_placed c.args.verdict.answer), simp length-take (omega arith))
+    simp length-take (omega arith)
