@@ -62,12 +62,12 @@ pub fn fields_of<const N: usize>(first: [Field; N]) -> Fields
     requires narrow { all is_narrow first ≡ true }
     ensures { fields_in result ≡ first.entry }
 {
-    let none = Field {
+    let blank = Field {
         tag: 0,
         width: 0,
         number: 0,
     };
-    let mut items = [none; FIELDS];
+    let mut items = [blank; FIELDS];
     items[..N].copy_from_slice(&first);
     Fields { count: N, items }
 }
