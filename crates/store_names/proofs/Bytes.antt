@@ -1,45 +1,19 @@
 -- Facts about lists of bytes: when two are the same, and what stands where one is put first.
 -- Assumes nothing.
-use mathlib.Core.Path.{◌≡◌, refl, ap₂, ◌∙◌}
-use mathlib.Core.Bool.{true, false, not-eq-not, and-eq-true_iff}
-use mathlib.Core.List.{List, [], ◌∷◌, ◌++◌, append_assoc}
-use Prim.Native.Nat.{ℕ, suc, ◌+◌, ◌-◌, ◌≤◌, ◌<◌}
-use native.Mathlib.Numerals.{add-one}
+use mathlib.Core.Path.{◌≡◌, refl, ◌∙◌}
+use mathlib.Core.List.{List, ◌++◌, append_assoc}
+use Prim.Native.Nat.{ℕ, ◌+◌, ◌-◌, ◌≤◌, ◌<◌}
 use native.Mathlib.Omega.{arith}
-use lib.Dec.{eqb}
-use lib.ListN.{length, set, take, drop, length-append, length-drop}
-use lib.Seq.{set_split, take_at, drop_at, drop-drop, length-take-le}
-use borrow.Author.Tests.{le-ltb, lt-ltb, eq-eqb, eqb-true}
-use Rattle.store_names.specs.declared.NameWrite.TheVariants.{Written, Full}
-use Rattle.store_names.specs.Names.{same_bytes, put_first}
-
--- ---- the same bytes
-
-pub same_eq : (l m : List ℕ) → same_bytes l m ≡ true → l ≡ m
-unfolding same_bytes
-same_eq [] [] h = refl
-same_eq [] (b ∷ m) h = cc
-same_eq (a ∷ l) [] h = cc
-same_eq (a ∷ l) (b ∷ m) h =
-    let t = (and-eq-true_iff (eqb a b) (same_bytes l m)).0 h in
-    ap₂ ◌∷◌ (eqb-true a b t.0) (same_eq l m t.1)
-
-pub same_not : (l m : List ℕ) → (l ≡ m → ⊥) → same_bytes l m ≡ false
-same_not l m other = (not-eq-not {b = false}).0 (λ h. other (same_eq l m h))
-
-pub same_refl : (l : List ℕ) → same_bytes l l ≡ true
-unfolding same_bytes
-same_refl [] = refl
-same_refl (b ∷ l) = rw (eq-eqb b b refl) (same_refl l)
-
--- ---- a byte stored at the front of what is left
-
-pub drop-set : (l : List ℕ) (i v : ℕ) → i < length l → drop i (set l i v) ≡ v ∷ drop (i + 1) l
-drop-set l i v h = rw (set_split l i v h, add-one) (drop_at (take i l) (v ∷ drop (suc i) l) i (length-take-le i l (omega arith)))
+use lib.ListN.{length, take, drop, length-append, length-drop}
+use lib.Seq.{take_at, drop_at, drop-drop, length-take-le}
+use borrow.Author.Tests.{le-ltb, lt-ltb}
+use Rattle.std.specs.Prelude.{Ok, Err}
+use Rattle.fields.specs.declared.WriteError.TheVariants.{Full}
+use Rattle.store_names.specs.Names.{put_first}
 
 -- ---- bytes put first
 
-pub first-full : (bytes buffer : List ℕ) → length buffer < length bytes → put_first bytes buffer ≡ record { answer = Full; buffer = buffer }
+pub first-full : (bytes buffer : List ℕ) → length buffer < length bytes → put_first bytes buffer ≡ record { answer = Err Full; buffer = buffer }
 unfolding put_first
 first-full bytes buffer h = rw (lt-ltb (length buffer) (length bytes) h)
 
@@ -59,7 +33,7 @@ part_more x y buffer a b long end =
 -- a part, and two more
 pub first_parts : (x y z buffer : List ℕ) (a b c : ℕ) → length x ≡ a → a + length y ≡ b → b + length z ≡ c → c ≤ length buffer
     → (left : List ℕ) → left ≡ take a (x ++ drop a buffer) ++ (y ++ drop (b - a) (drop a (x ++ drop a buffer)))
-    → put_first (x ++ y ++ z) buffer ≡ record { answer = Written c; buffer = take b left ++ (z ++ drop (c - b) (drop b left)) }
+    → put_first (x ++ y ++ z) buffer ≡ record { answer = Ok c; buffer = take b left ++ (z ++ drop (c - b) (drop b left)) }
 unfolding put_first
 first_parts x y z buffer a b c long end whole room left is =
     let both : length (x ++ y) ≡ b = omega (arith, length-append x y) in
