@@ -34,7 +34,7 @@ unfolding number_in
 number_in_lem folder suffix n taken =
     let behind = digits name_digits n ++ suffix in
     let split : folder ++ digits name_digits n ++ suffix ≡ folder ++ behind = append_assoc folder (digits name_digits n) suffix in
-    rw (split, take_at folder behind (length folder) refl, (bytes_eq-Decides folder folder).1 refl, drop_at folder behind (length folder) refl) (number_before_lem suffix n taken)
+    rw split (simp (take_at folder behind (length folder) refl, (bytes_eq-Decides folder folder).1 refl, drop_at folder behind (length folder) refl) (number_before_lem suffix n taken))
 
 -- an object's folder is no manifest's
 crossed : (suffix behind : List ℕ) → number_in manifest_folder suffix (object_folder ++ behind) ≡ None

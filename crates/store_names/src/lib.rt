@@ -80,6 +80,7 @@ impl Frame<'_> {
     }
 
     // Writes the folder, the digits of n and the suffix at the start of `out`, where there is room.
+    #[tactic(auto, using(crate::proofs::Bytes::no_room, crate::proofs::Bytes::parts_put))]
     fn write(&self, n: u64, out: &mut [u8]) -> Result<usize, WriteError>
         ensures { put_first (self.now.folder.now ++ digits name_digits n ++ self.now.suffix.now) out.old ≡ record { answer = result; buffer = out.new } }
     {
