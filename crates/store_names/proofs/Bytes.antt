@@ -42,3 +42,5 @@ module _ (folder suffix buffer : List ℕ) (n : ℕ) where
       let two = part_more folder (digits name_digits n) buffer a b refl (omega (arith, length_digits name_digits n)) in
       let three = part_more (folder ++ digits name_digits n) suffix buffer b (b + length suffix) (simp (length-append, length_digits)) refl in
       rw (e, f, g, length_name, le-ltb (length buffer) (b + length suffix) room, two, three)
+
+pub ruleset placing = (no_room, parts_put)

@@ -117,6 +117,8 @@ pub decimal_end : (n i : ℕ) (s : List ℕ) → n ≤ largest → length s ≤ 
 unfolding decimal_from all_digits value_from
 decimal_end n i s h past = rw (drop_of_length-le s past, le-leb n largest h)
 
+pub ruleset reading = (reads_digit, reads_other, decimal_large, decimal_end)
+
 -- ---- the writer's cases: the digit before those from i on, or none is left
 
 pub puts_digit : (i n : ℕ) (s : List ℕ) → 0 < i → i ≤ length s → digits (i - 1) (n / 10) ++ drop (i - 1) (set s (i - 1) (48 + n % 10)) ≡ digits i n ++ drop i s
@@ -130,3 +132,5 @@ pub digits_put : (i n : ℕ) (s : List ℕ) → i ≤ 0 → digits i n ++ drop i
 unfolding digits
 digits_put zero n s h = refl
 digits_put (suc i) n s h = absurd (omega arith)
+
+pub ruleset putting = (puts_digit, digits_put)

@@ -37,7 +37,7 @@ pub enum Name {
 }
 
 // The number that all the bytes say in decimal, where they are digits and it fits.
-#[tactic(auto, using(crate::proofs::Digits::reads_digit, crate::proofs::Digits::reads_other, crate::proofs::Digits::decimal_large, crate::proofs::Digits::decimal_end))]
+#[tactic(auto, using(crate::proofs::Digits::reading))]
 fn read_digits(s: &[u8]) -> Option<u64>
     ensures { result ≡ decimal s.now }
 {
@@ -52,7 +52,7 @@ fn read_digits(s: &[u8]) -> Option<u64>
 }
 
 // Fills the slice with the last digits of n, as many as it has bytes.
-#[tactic(auto, using(crate::proofs::Digits::puts_digit, crate::proofs::Digits::digits_put))]
+#[tactic(auto, using(crate::proofs::Digits::putting))]
 fn put_digits(n: u64, out: &mut [u8])
     ensures { out.new ≡ digits (length out.old) n }
 {
@@ -80,7 +80,7 @@ impl Frame<'_> {
     }
 
     // Writes the folder, the digits of n and the suffix at the start of `out`, where there is room.
-    #[tactic(auto, using(crate::proofs::Bytes::no_room, crate::proofs::Bytes::parts_put))]
+    #[tactic(auto, using(crate::proofs::Bytes::placing))]
     fn write(&self, n: u64, out: &mut [u8]) -> Result<usize, WriteError>
         ensures { put_first (self.now.folder.now ++ digits name_digits n ++ self.now.suffix.now) out.old ≡ record { answer = result; buffer = out.new } }
     {
