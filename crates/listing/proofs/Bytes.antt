@@ -1,21 +1,17 @@
--- Byte order by the first bytes, and the first line by the first byte: the cases of the loops.
+-- Byte order is the library's order of slices.
 -- Assumes nothing.
-use mathlib.Core.Path.{◌≡◌}
-use mathlib.Core.Bool.{true, false}
-use mathlib.Core.List.{List, ◌∷◌}
-use Prim.Native.Nat.{ℕ, ◌<◌}
+use mathlib.Core.Path.{◌≡◌, refl}
+use mathlib.Core.Bool.{Bool}
+use mathlib.Core.List.{List}
+use Prim.Native.Nat.{ℕ}
 use native.Mathlib.Omega.{arith}
-use borrow.Author.Tests.{lt-ltb, le-ltb, eq-eqb, ne_eqb}
+use Rattle.std.specs.Prelude.{Some}
+use Rattle.std.specs.Ordering.{nat_cmp, is_lt, is_some_and}
+use Rattle.std.specs.Cmp.Lexicographic.{slice_partial_cmp}
+use Rattle.std.proofs.lemmas.Cmp.{same_from_slice_cmp_tested}
+use Rattle.std.proofs.lemmas.Bool.Decides.{nat_tests}
 use Rattle.listing.specs.Lines.{below}
 
-pub below_less : (a b : ℕ) (l m : List ℕ) → a < b → below (a ∷ l) (b ∷ m) ≡ true
+pub below_ordered : (xs ys : List ℕ) (r : Bool) → r ≡ is_some_and is_lt (slice_partial_cmp (λ x y. Some (nat_cmp x y)) xs ys) → r ≡ below xs ys
 unfolding below
-below_less a b l m h = rw (lt-ltb a b h)
-
-pub below_more : (a b : ℕ) (l m : List ℕ) → b < a → below (a ∷ l) (b ∷ m) ≡ false
-unfolding below
-below_more a b l m h = rw (le-ltb a b (omega arith), ne_eqb a b (omega arith))
-
-pub below-same : (a b : ℕ) (l m : List ℕ) → a ≡ b → below (a ∷ l) (b ∷ m) ≡ below l m
-unfolding below
-below-same a b l m h = rw (le-ltb a b (omega arith), eq-eqb a b h)
+below_ordered = same_from_slice_cmp_tested nat_cmp is_lt below refl (λ _ _. refl) (λ _ _. refl) (λ x y xs ys o h. grind (arith, nat_tests))
