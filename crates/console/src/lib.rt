@@ -20,6 +20,7 @@ fn say_code(rt: &impl Print, code: u8) {
 }
 
 // The code of the verdict whose record these bytes start with.
+#[tactic(auto, using(crate::proofs::Codes::code_shown))]
 fn code_of(verdict: &[u8; LONGEST_VERDICT]) -> u8
     ensures { ShowsCode verdict.now result }
 {
