@@ -64,7 +64,8 @@ fn line_length(bytes: &[u8]) -> Option<usize>
 fn name_behind(before: &[u8], line: &[u8]) -> Option<Name>
     ensures { result ≡ name_behind before.now line.now }
 {
-    if before < line {
+    // `cmp`, and not `<`: it passes what is equal in groups of bytes
+    if before.cmp(line).is_lt() {
         store_names::read_name(line)
     } else {
         None
