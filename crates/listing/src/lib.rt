@@ -85,6 +85,7 @@ pub fn read_listing(bytes: &[u8]) -> Listing
     let mut lines: u64 = 0;
     let mut before: &[u8] = b"";
     let mut rest = bytes;
+    // stays: a `for` over `split` is no plainer, since what it gives behind the last 0A is no line that is ended
     while let Some(length) = line_length(rest) {
         let line = &rest[..length];
         let Some(name) = name_behind(before, line) else {
