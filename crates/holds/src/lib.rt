@@ -56,6 +56,14 @@ impl Holds {
         }
     }
 
+    // The places that hold.
+    fn held(&self) -> &[Hold]
+        requires { self.now.count ≤ limits.holds }
+        ensures { result.now ≡ holds_of self.now }
+    {
+        &self.items[..self.count]
+    }
+
     // Whether the places behind the holds are all zero, of any value.
     #[tactic(auto, unfolding(crate::specs::Holds::is_laid))]
     pub fn is_laid(self) -> bool
@@ -71,7 +79,7 @@ impl Holds {
         ensures { result ≡ rising_above 0 (numbers (holds_of self)) }
     {
         let mut last = 0;
-        for hold in &self.items[..self.count] {
+        for hold in self.held() {
             if hold.number <= last {
                 return false;
             }
@@ -85,9 +93,7 @@ impl Holds {
         requires { self.count ≤ limits.holds }
         ensures { result ≡ all (live time) (holds_of self) }
     {
-        self.items[..self.count]
-            .iter()
-            .all(|hold| is_live(time, *hold))
+        self.held().iter().all(|hold| is_live(time, *hold))
     }
 
     // Whether a hold has this number.
@@ -95,9 +101,7 @@ impl Holds {
         requires { self.count ≤ limits.holds }
         ensures { result ≡ has_number (holds_of self) number }
     {
-        self.items[..self.count]
-            .iter()
-            .any(|hold| number == hold.number)
+        self.held().iter().any(|hold| number == hold.number)
     }
 
     // Whether a hold names this manifest.
@@ -105,9 +109,7 @@ impl Holds {
         requires { self.count ≤ limits.holds }
         ensures { result ≡ names_manifest (holds_of self) manifest }
     {
-        self.items[..self.count]
-            .iter()
-            .any(|hold| manifest == hold.manifest)
+        self.held().iter().any(|hold| manifest == hold.manifest)
     }
 
     // The manifest that the hold of this number names, 0 where there is none.
@@ -115,7 +117,7 @@ impl Holds {
         requires { self.count ≤ limits.holds }
         ensures { result ≡ manifest_by (holds_of self) number }
     {
-        self.items[..self.count]
+        self.held()
             .iter()
             .find(|hold| number == hold.number)
             .map_or(0, |hold| hold.manifest)
@@ -128,7 +130,7 @@ impl Holds {
         ensures { (p : Hold → Bool) → Tests F.Fn p keeps → result ≡ lay_holds (keep p (holds_of self)) }
     {
         let mut next = Holds::none();
-        next.count = arrays::pack(&self.items[..self.count], keeps, &mut next.items);
+        next.count = arrays::pack(self.held(), keeps, &mut next.items);
         next
     }
 
@@ -154,7 +156,7 @@ impl Holds {
         ensures { result ≡ lay_holds (map (renewed number expiry) (holds_of self)) }
     {
         let mut next = Holds::none();
-        for (i, hold) in self.items[..self.count].iter().enumerate() {
+        for (i, hold) in self.held().iter().enumerate() {
             next.items[i] = with_expiry(*hold, number, expiry);
         }
         next.count = self.count;

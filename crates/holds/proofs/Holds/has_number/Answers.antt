@@ -1,12 +1,13 @@
-use Rattle.std.proofs.Common.{rules, tests, ◌∙◌, take}
+use Rattle.std.proofs.Common.{rules, tests, ◌∙◌}
 use Rattle.std.proofs.lemmas.Iterator.Search.{any_from_yields_List}
 use Rattle.std.proofs.lemmas.Iterator.{YieldsList-from_slice}
 use lib.Dec.{eqb}
 use Rattle.rules.specs.declared.Hold.{Hold}
 use Rattle.rules.proofs.Listed.{any_listed}
+use Rattle.holds.specs.Holds.{holds_of}
 use Rattle.holds.proofs.Holds.has_number.Goals as goal
 
 pub returns : goal.returns
 returns c =
-    any_from_yields_List (λ (h : Hold). eqb c.args.number h.number) _ _ _ c.any.ensures.ran (YieldsList-from_slice (take c.args.self.count c.args.self.items) cc) (λ x b q k. search (rules, tests))
+    any_from_yields_List (λ (h : Hold). eqb c.args.number h.number) _ _ _ c.any.ensures.ran (YieldsList-from_slice (holds_of c.args.self) cc) (λ x b q k. search (rules, tests))
     ∙ any_listed _ _
