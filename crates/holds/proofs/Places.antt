@@ -73,7 +73,7 @@ inserted_first y (z ∷ zs) e =
     let t = and_left (ltb y.number z.number) _ e in
     rw t (ap (λ (l : List Hold). y ∷ l) (inserted_first z zs (and_right (ltb y.number z.number) _ e)))
 
-inserted_rising : (floor : ℕ) (x : Hold) (ys : List Hold) → rising_above floor (numbers ys) ≡ true → inserted_by earlier x ys ≡ insert_hold x ys
+pub inserted_rising : (floor : ℕ) (x : Hold) (ys : List Hold) → rising_above floor (numbers ys) ≡ true → inserted_by earlier x ys ≡ insert_hold x ys
 unfolding inserted_by insert_hold rising_above
 inserted_rising floor x [] e = refl
 inserted_rising floor x (y ∷ ys) e = step (ltb x.number y.number) (inserted_first y ys rest) (inserted_rising y.number x ys rest)
