@@ -11,18 +11,19 @@ use Rattle.std.proofs.Common.{Option, Some, None}
 use Rattle.rules.specs.Lists.{lookup}
 
 module _ {A B : Type 0} (key : A → ℕ) (value : A → B) (default : B) (n : ℕ) where
-  -- the value of what is found, or the default
-  found : (b : B) (xs : List A) → MatchOption (find (λ a. eqb n (key a)) xs) (b ≡ default) (λ a. b ≡ value a) → b ≡ lookup key value default n xs
+  -- b is the value of what is found, or the default
+  pub lookup-find : (b : B) (xs : List A) → MatchOption (find (λ a. eqb n (key a)) xs) (b ≡ default) (λ a. b ≡ value a) → b ≡ lookup key value default n xs
   unfolding lookup
-  found b [] h = h
-  found b (x ∷ xs) h = step (eqb n (key x)) (found b xs) h
+  lookup-find b [] h = h
+  lookup-find b (x ∷ xs) h = step (eqb n (key x)) (lookup-find b xs) h
     where
       step : (t : Bool) → (MatchOption (find (λ a. eqb n (key a)) xs) (b ≡ default) (λ a. b ≡ value a) → b ≡ lookup key value default n xs)
           → MatchOption (cond t (Some x) (find (λ a. eqb n (key a)) xs)) (b ≡ default) (λ a. b ≡ value a) → b ≡ cond t (value x) (lookup key value default n xs)
       step true f h = h
       step false f h = f h
 
+  -- the same where v reads what is found
   pub lookup-found : {X : Type 0} (v : X → A) (r : Option X) (b : B) (xs : List A) → option_map v r ≡ find (λ a. eqb n (key a)) xs
       → MatchOption r (b ≡ default) (λ x. b ≡ value (v x)) → b ≡ lookup key value default n xs
-  lookup-found v None b xs e h = found b xs (rw (← e) h)
-  lookup-found v (Some x) b xs e h = found b xs (rw (← e) h)
+  lookup-found v None b xs e h = lookup-find b xs (rw (← e) h)
+  lookup-found v (Some x) b xs e h = lookup-find b xs (rw (← e) h)
