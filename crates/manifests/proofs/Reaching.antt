@@ -1,4 +1,4 @@
--- The loops of the reach test: what is left of a list says what the whole list says, and each list passed has its count.
+-- The reach test: what is left of a list says what the whole list says, and each list passed has its count.
 -- Assumes nothing.
 use mathlib.Core.Path.{◌≡◌, refl, sym, ap, ap₂, ◌∙◌}
 use mathlib.Core.Bool.{Bool, true, false, cond, ◌||◌}
@@ -9,15 +9,15 @@ use native.Mathlib.Numerals.{add-one}
 use native.Mathlib.Omega.{arith}
 use borrow.Author.Tests.{eq-eqb, ne_eqb, lt-ltb, le-ltb, le-leb, leb-true, eqb-true}
 use lib.Dec.{leb, ltb, eqb}
-use lib.ListN.{length, take, drop, get_or, set, length-map, length-take, get_or-eq_default}
-use lib.Seq.{slice, slice_empty, length-slice, length-take-le, split_at, take-nil, take-suc, take-add, take-take, drop-drop, drop_at, get_or-take, get_or-drop, get_or-set_same, set-get_or, set-set}
+use lib.ListN.{length, take, drop, get_or, length-map, length-take}
+use lib.Seq.{slice, slice_empty, length-slice, length-take-le, split_at, take-nil, take-suc, take-add, take-take, drop-drop, drop_at, get_or-take, get_or-drop}
 use Rattle.rules.specs.Limits.{limits, manifest_limit}
 use Rattle.rules.specs.Lists.{any, all, has, rising_above}
 use Rattle.rules.specs.State.{Manifest}
 use Rattle.rules.proofs.Lists.{and_left, and_right, and_both, or_false-left, or_false_right}
 use Rattle.rules.proofs.Typed.{padded-room}
 use Rattle.arrays.specs.Arrays.{pad}
-use Rattle.arrays.proofs.Lists.{get_d_pad, map-append, any_found, Filled}
+use Rattle.arrays.proofs.Lists.{get_d_pad, map-append, any_found}
 use Rattle.manifests.specs.declared.KeptManifest.{KeptManifest}
 use Rattle.manifests.specs.declared.Manifests.{Manifests}
 use Rattle.manifests.specs.declared.Reach.{Reach}
@@ -152,13 +152,8 @@ list_at_lem (a ∷ rest) [] i = refl
 list_at_lem (a ∷ rest) (n ∷ counts) zero = refl
 list_at_lem (a ∷ rest) (n ∷ counts) (suc i) = list_at_lem rest counts i
 
--- what is asked of the lists, at i
-module _ {names : List (List ℕ)} {counts : List ℕ} (s : Searchable names counts) (i : ℕ) (h : i < length counts) where
-  pub list_few : get_or counts i 0 ≤ limits.names
-  list_few = leb-true _ _ (all-at (λ n. leb n limits.names) counts s.lists i 0 h)
-
-  pub array_whole : length (get_or names i []) ≡ limits.names
-  array_whole = eqb-true _ _ (all-at (λ a. eqb (length a) limits.names) names s.whole i [] (omega (arith, s.arrays)))
+pub list_few : {names : List (List ℕ)} {counts : List ℕ} (s : Searchable names counts) (i : ℕ) → i < length counts → get_or counts i 0 ≤ limits.names
+list_few {counts = counts} s i h = leb-true _ _ (all-at (λ n. leb n limits.names) counts s.lists i 0 h)
 
 -- The lists of the kept manifests
 

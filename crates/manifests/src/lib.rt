@@ -104,7 +104,9 @@ impl Manifests {
         requires { self.now.count ≤ manifest_limit limits }
         ensures { result ≡ all is_list_laid (take self.now.count self.now.items) }
     {
-        self.kept().iter().all(|kept| rules::is_padded(kept.count, &kept.names))
+        self.kept()
+            .iter()
+            .all(|kept| rules::is_padded(kept.count, &kept.names))
     }
 
     // Whether the places behind the kept manifests are all zero.
@@ -112,7 +114,9 @@ impl Manifests {
         requires { self.now.count ≤ manifest_limit limits }
         ensures { result ≡ all is_no_manifest (drop self.now.count self.now.items) }
     {
-        self.items[self.count..].iter().all(|place| is_no_manifest(place))
+        self.items[self.count..]
+            .iter()
+            .all(|place| is_no_manifest(place))
     }
 
     // Whether numbers rise, the two epochs of each add to at most its number, and neither falls. No sum may wrap.
@@ -123,10 +127,8 @@ impl Manifests {
     {
         let kept = self.kept();
         follows(&kept[0], 0, 0)
-            && kept
-                .iter()
-                .zip(&kept[1..])
-                .all(|(before, next)| before.number < next.number && follows(next, before.writer, before.compactor))
+            && kept.iter().zip(&kept[1..]).all(|(before, next)| before.number < next.number
+                && follows(next, before.writer, before.compactor))
     }
 
     // Whether a hold names each manifest but the current one.
@@ -135,7 +137,9 @@ impl Manifests {
         requires { (is_laid self ≡ true) × (holds.count ≤ limits.holds) }
         ensures { result ≡ all (held_by (holds_of holds)) (older_of self) }
     {
-        self.items[..self.count - 1].iter().all(|older| holds.names_manifest(older.number))
+        self.items[..self.count - 1]
+            .iter()
+            .all(|older| holds.names_manifest(older.number))
     }
 
     // Whether a kept manifest has this number.
@@ -153,7 +157,11 @@ impl Manifests {
         requires { is_laid self ≡ true }
         ensures { result ≡ lay_manifest (numbered (manifests_of self) number) }
     {
-        self.kept().iter().find(|kept| number == kept.number).copied().unwrap_or(ZERO)
+        self.kept()
+            .iter()
+            .find(|kept| number == kept.number)
+            .copied()
+            .unwrap_or(ZERO)
     }
 
     // The current manifest is the last.
@@ -193,7 +201,11 @@ impl Manifests {
         ensures { result ≡ lay_manifests (keep (held_by (holds_of holds)) (map manifest_of (take n self.items)) ++ (manifest_of last ∷ [])) }
     {
         let mut items = [ZERO; MANIFESTS];
-        let count = arrays::pack(&self.items[..n], |kept| holds.names_manifest(kept.number), &mut items);
+        let count = arrays::pack(
+            &self.items[..n],
+            |kept| holds.names_manifest(kept.number),
+            &mut items,
+        );
         items[count] = last;
         Manifests {
             count: count + 1,
@@ -243,5 +255,8 @@ pub fn reaches(names: &[[u64; NAMES]], counts: &[usize], object: u64) -> Reach
             return Reach { found: true, reads };
         }
     }
-    Reach { found: false, reads }
+    Reach {
+        found: false,
+        reads,
+    }
 }

@@ -5,7 +5,6 @@ use Rattle.rules.specs.Limits.{limits, manifest_limit}
 use Rattle.rules.specs.Lists.{any}
 use Rattle.arrays.specs.Arrays.{pad}
 use Rattle.arrays.proofs.Lists.{any_passed, filled_none, filled_next, Filled}
-use Rattle.manifests.specs.Search.{search}
 use Rattle.manifests.specs.Reach.{lists_in}
 use Rattle.manifests.proofs.Reaching.{finds, counted, reach-none, reach-found, lists_long, list_at_lem}
 use Rattle.manifests.proofs.reaches.Goals.{After-search-found}

@@ -1,6 +1,4 @@
 use Rattle.std.proofs.Common.{arith}
-use lib.ListN.{replicate}
-use Rattle.rules.specs.Limits.{limits}
 use Rattle.arrays.proofs.Lists.{copied_none, copied_next, copied_all}
 use Rattle.manifests.specs.declared.KeptManifest.{KeptManifest}
 use Rattle.manifests.specs.Manifests.{past_end}

@@ -1,6 +1,5 @@
 -- `Manifests::counts` meets its contract. The invariant: the first places have how many names each of the places passed has.
 -- Assumes nothing.
-use lib.ListN.{replicate}
 use Rattle.rules.specs.Limits.{limits, manifest_limit}
 use Rattle.arrays.proofs.Lists.{Copied}
 use Rattle.manifests.specs.declared.KeptManifest.{KeptManifest}

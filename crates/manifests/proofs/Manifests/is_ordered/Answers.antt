@@ -1,4 +1,4 @@
-use Rattle.std.proofs.Common.{rules, tests, arith, ◌≡◌, refl, sym, ap, ap₂, ◌∙◌, Bool, true, false, ◌&&◌, List, [], ◌∷◌, map, ℕ, suc, take, drop, length, ltb, leb, ◌<◌, ◌+◌}
+use Rattle.std.proofs.Common.{rules, tests, arith, ◌≡◌, refl, sym, ap, ap₂, ◌∙◌, Bool, true, false, ◌&&◌, List, [], ◌∷◌, map, ℕ, suc, drop, length, ltb, leb, ◌<◌, ◌+◌}
 use Rattle.std.specs.List.{list_all, zip}
 use Rattle.std.proofs.lemmas.Iterator.Search.{all_from_yields_List}
 use Rattle.std.proofs.lemmas.Iterator.{YieldsList-from_slice, YieldsList-from_zip}
@@ -10,8 +10,7 @@ use lib.ListN.{get_or}
 use lib.Seq.{drop-cons, length-take-le}
 use Rattle.std.proofs.lemmas.List.{take_rest}
 use Rattle.manifests.specs.declared.KeptManifest.{KeptManifest}
-use Rattle.manifests.specs.declared.Manifests.{Manifests}
-use Rattle.manifests.specs.Manifests.{manifest_of, manifests_of, epochs_follow, is_laid, past_end}
+use Rattle.manifests.specs.Manifests.{manifest_of, manifests_of, epochs_follow, past_end}
 use Rattle.manifests.proofs.Places.{items_long, few, some}
 use Rattle.manifests.proofs.Manifests.is_ordered.Goals.{After-follows}
 use Rattle.manifests.proofs.Manifests.is_ordered.Goals as goal

@@ -1,4 +1,4 @@
-use Rattle.std.proofs.Common.{rules, tests, ◌≡◌, refl, sym, ap, ap₂, ◌∙◌, Bool, true, false, cond, List, [], ◌∷◌, map, ℕ, take, Option, Some, None, arith}
+use Rattle.std.proofs.Common.{rules, tests, ◌≡◌, refl, sym, ap, ap₂, ◌∙◌, Bool, true, false, cond, List, [], ◌∷◌, map, ℕ, Option, Some, None, arith}
 use Rattle.std.specs.Option.{MatchOption, unwrap_or}
 use Rattle.std.proofs.lemmas.Iterator.Search.{find_from_yields_List}
 use Rattle.std.proofs.lemmas.Iterator.{YieldsList-from_slice}
@@ -8,7 +8,7 @@ use Rattle.rules.specs.Lists.{lookup}
 use Rattle.rules.specs.State.{Manifest, first_manifest}
 use Rattle.holds.proofs.Found.{lookup-find}
 use Rattle.manifests.specs.declared.KeptManifest.{KeptManifest}
-use Rattle.manifests.specs.Manifests.{lay_manifest, manifest_of, no_manifest, manifests_of}
+use Rattle.manifests.specs.Manifests.{lay_manifest, no_manifest, manifests_of}
 use Rattle.manifests.proofs.Places.{long, first-laid, kept_same}
 use Rattle.manifests.proofs.Manifests.numbered.Goals as goal
 
@@ -32,8 +32,9 @@ returns c =
     let s = c.args.self in
     let n = c.args.number in
     let kept = c.kept.result.now in
-    let found : c.copied.result ≡ find (λ (m : KeptManifest). eqb n m.number) kept =
-    c.copied.ensures ∙ find_from_yields_List (λ (m : KeptManifest). eqb n m.number) _ _ c.find.result c.find.ensures.ran (YieldsList-from_slice kept cc) (λ x b q k. search (rules, tests)) in
+    let this : KeptManifest → Bool = λ m. eqb n m.number in
+    let found : c.copied.result ≡ find this kept =
+    c.copied.ensures ∙ find_from_yields_List this _ _ c.find.result c.find.ensures.ran (YieldsList-from_slice kept cc) (λ x b q k. search (rules, tests)) in
     c.unwrap_or.ensures ∙ ap (λ (o : Option KeptManifest). unwrap_or o no_manifest) found
     ∙ lookup-find (λ (m : KeptManifest). m.number) (λ m. m) no_manifest n _ kept (unwrapped _ no_manifest)
     ∙ ap₂ (λ (d : KeptManifest) (l : List KeptManifest). lookup (λ (m : KeptManifest). m.number) (λ m. m) d n l) (sym first-laid)

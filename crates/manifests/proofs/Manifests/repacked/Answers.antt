@@ -1,4 +1,4 @@
-use Rattle.std.proofs.Common.{rules, tests, arith, ◌≡◌, sym, ap, ap₂, ◌∙◌, List, [], ◌∷◌, ◌++◌, map, ℕ, ◌+◌, ◌≤◌, Bool, length, take, drop}
+use Rattle.std.proofs.Common.{rules, tests, arith, ◌≡◌, sym, ap, ap₂, ◌∙◌, List, [], ◌∷◌, ◌++◌, map, ℕ, ◌+◌, ◌≤◌, length, take, drop}
 use lib.ListN.{set, replicate, length-map, length-append}
 use Rattle.rules.specs.Limits.{limits, manifest_limit}
 use Rattle.rules.specs.Lists.{keep}
@@ -42,7 +42,7 @@ module _ (ms : Manifests) (n : ℕ) (hs : Holds) (last : KeptManifest) (l : Long
       λ i. record {
         count = one_more i;
         items = (ap₂ (λ (a : List KeptManifest) (j : ℕ). set a j last) (array ∙ laid_over (manifest_limit limits) no_manifest places) count
-        ∙ pad-set (manifest_limit limits) no_manifest places last (omega (arith, few)) ∙ ap (pad (manifest_limit limits) no_manifest) (sym all)) i;
+            ∙ pad-set (manifest_limit limits) no_manifest places last (omega (arith, few)) ∙ ap (pad (manifest_limit limits) no_manifest) (sym all)) i;
       }
 
 -- how many are kept
