@@ -114,12 +114,11 @@ impl Manifests {
         requires { self.now.count ≤ manifest_limit limits }
         ensures { result ≡ all is_no_manifest (drop self.now.count self.now.items) }
     {
-        self.items[self.count..]
-            .iter()
-            .all(|place| is_no_manifest(place))
+        self.items[self.count..].iter().all(is_no_manifest)
     }
 
-    // Whether numbers rise, the two epochs of each add to at most its number, and neither falls. No sum may wrap.
+    // Whether numbers rise, the two epochs of each add to at most its number, and neither falls. No sum may wrap. The first may
+    // have any number.
     #[tactic(auto, using(crate::proofs::Places::few, crate::proofs::Places::some))]
     pub fn is_ordered(self) -> bool
         requires { is_laid self ≡ true }
@@ -174,6 +173,7 @@ impl Manifests {
     }
 
     // The names in the places of the manifests, and how many each has. Whoever tests many objects lends them, and copies no manifest.
+    // stays: two loops: `from_fn` was tried, and the proof did not close, for it learns nothing of an array that a closure returns.
     pub fn names(self) -> [[u64; NAMES]; MANIFESTS]
         ensures { result ≡ names_at self.items }
     {
