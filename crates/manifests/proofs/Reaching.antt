@@ -1,4 +1,4 @@
--- The reach test: what is left of a list says what the whole list says, and each list passed has its count.
+-- The loops of the reach test: what is left of a list says what the whole list says, and each list passed has its count.
 -- Assumes nothing.
 use mathlib.Core.Path.{◌≡◌, refl, sym, ap, ap₂, ◌∙◌}
 use mathlib.Core.Bool.{Bool, true, false, cond, ◌||◌}
@@ -9,15 +9,15 @@ use native.Mathlib.Numerals.{add-one}
 use native.Mathlib.Omega.{arith}
 use borrow.Author.Tests.{eq-eqb, ne_eqb, lt-ltb, le-ltb, le-leb, leb-true, eqb-true}
 use lib.Dec.{leb, ltb, eqb}
-use lib.ListN.{length, take, drop, get_or, length-map, length-take}
-use lib.Seq.{slice, slice_empty, length-slice, length-take-le, split_at, take-nil, take-suc, take-add, take-take, drop-drop, drop_at, get_or-take, get_or-drop}
+use lib.ListN.{length, take, drop, get_or, set, length-map, length-take, get_or-eq_default}
+use lib.Seq.{slice, slice_empty, length-slice, length-take-le, split_at, take-nil, take-suc, take-add, take-take, drop-drop, drop_at, get_or-take, get_or-drop, get_or-set_same, set-get_or, set-set}
 use Rattle.rules.specs.Limits.{limits, manifest_limit}
 use Rattle.rules.specs.Lists.{any, all, has, rising_above}
 use Rattle.rules.specs.State.{Manifest}
 use Rattle.rules.proofs.Lists.{and_left, and_right, and_both, or_false-left, or_false_right}
 use Rattle.rules.proofs.Typed.{padded-room}
 use Rattle.arrays.specs.Arrays.{pad}
-use Rattle.arrays.proofs.Lists.{get_d_pad, map-append, any_found}
+use Rattle.arrays.proofs.Lists.{get_d_pad, map-append, any_found, Filled}
 use Rattle.manifests.specs.declared.KeptManifest.{KeptManifest}
 use Rattle.manifests.specs.declared.Manifests.{Manifests}
 use Rattle.manifests.specs.declared.Reach.{Reach}
@@ -71,20 +71,47 @@ module _ (n : ℕ) (l : List ℕ) {low high : ℕ} (some : low < high) (room : h
   pub down : (get_or l at 0 ≡ n → ⊥) → n ≤ get_or l at 0 → search n left ≡ after_read (search n (slice low at l))
   down d h = next false false (ne_eqb _ _ (λ e. d (sym e))) (le-ltb _ _ h)
 
+-- The count so far, and what the rest of the list says, are what the whole list says
+
 -- k names were read, and then this
-abbrev pub after : ℕ → Search → Search
+abbrev after : ℕ → Search → Search
 after k s = record { found = s.found; reads = k + s.reads }
 
-pub after_none : (s : Search) → after 0 s ≡ s
-after_none s = let same : 0 + s.reads ≡ s.reads = omega arith in λ i. record { found = s.found; reads = same i }
+after_read_lem : (k : ℕ) (s : Search) → after k (after_read s) ≡ after (k + 1) s
+after_read_lem k s = let same : k + suc s.reads ≡ k + 1 + s.reads = omega arith in λ i. record { found = s.found; reads = same i }
 
--- a name more was read: what is left then says what was left before
-pub after_next : (k : ℕ) {part rest whole : Search} → part ≡ after_read rest → after k part ≡ whole → after (k + 1) rest ≡ whole
-after_next k {part} {rest} e says =
-    let same : k + 1 + rest.reads ≡ k + suc rest.reads = omega arith in
-    (λ i. record { found = rest.found; reads = same i }) ∙ ap (after k) (sym e) ∙ says
+-- part is the search of what is left; counts has the count so far at place i, and else what first had
+pub record Searched (whole part : Search) (i : ℕ) (first counts : List ℕ) : Type 0 where
+  pub says : after (get_or counts i 0) part ≡ whole
+  pub elsewhere : counts ≡ set first i (get_or counts i 0)
+
+pub searched_none : {whole : Search} (i : ℕ) (counts : List ℕ) → get_or counts i 0 ≡ 0 → Searched whole whole i counts counts
+searched_none {whole} i counts z = record {
+  says = let same : get_or counts i 0 + whole.reads ≡ whole.reads = omega (arith, z) in λ j. record { found = whole.found; reads = same j };
+  elsewhere = sym (set-get_or counts i 0);
+}
+
+module _ {whole part : Search} {i : ℕ} {first counts : List ℕ} (s : Searched whole part i first counts) where
+  pub searched_read : i < length counts → {rest : Search} → part ≡ after_read rest → Searched whole rest i first (set counts i (get_or counts i 0 + 1))
+  searched_read room {rest} e =
+      let one : get_or (set counts i (get_or counts i 0 + 1)) i 0 ≡ get_or counts i 0 + 1 = get_or-set_same counts i _ 0 room in
+      record {
+        says = ap (λ (k : ℕ). after k rest) one ∙ sym (after_read_lem (get_or counts i 0) rest) ∙ ap (after (get_or counts i 0)) (sym e) ∙ s.says;
+        elsewhere = ap (λ (l : List ℕ). set l i (get_or counts i 0 + 1)) s.elsewhere ∙ set-set first i _ _ ∙ ap (set first i) (sym one);
+      }
+
+  pub searched_over : {b : Bool} → part ≡ over b → (whole.found ≡ b) × (counts ≡ set first i whole.reads)
+  searched_over e =
+      let all : get_or counts i 0 ≡ whole.reads = omega (arith, ap (λ (w : Search). w.reads) s.says, ap (λ (w : Search). w.reads) e) in
+      (ap (λ (w : Search). w.found) (sym s.says ∙ ap (after (get_or counts i 0)) e), s.elsewhere ∙ ap (set first i) all)
 
 -- The counts of the lists passed, none of which has the object
+
+-- the next list has no count yet
+pub filled_empty : {A : Type 0} (k : ℕ) (f : A → ℕ) (l : List A) (i : ℕ) {counts : List ℕ} → Filled k 0 f l i counts → get_or counts i 0 ≡ 0
+filled_empty k f l i e =
+    ap (λ (a : List ℕ). get_or a i 0) e ∙ get_d_pad k 0 (map f (take i l)) i
+    ∙ get_or-eq_default (map f (take i l)) 0 (omega (arith, length-map (take i l) f, length-take i l))
 
 module _ (n : ℕ) where
   abbrev pub finds : List ℕ → Bool
@@ -152,6 +179,7 @@ list_at_lem (a ∷ rest) [] i = refl
 list_at_lem (a ∷ rest) (n ∷ counts) zero = refl
 list_at_lem (a ∷ rest) (n ∷ counts) (suc i) = list_at_lem rest counts i
 
+-- what is asked of the counts, at i
 pub list_few : {names : List (List ℕ)} {counts : List ℕ} (s : Searchable names counts) (i : ℕ) → i < length counts → get_or counts i 0 ≤ limits.names
 list_few {counts = counts} s i h = leb-true _ _ (all-at (λ n. leb n limits.names) counts s.lists i 0 h)
 

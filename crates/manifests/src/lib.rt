@@ -1,7 +1,7 @@
 // The kept manifests of a ledger: one to nine, packed in rising number; the last is current.
 #![tactic(auto)]
 
-ghost use Rattle.std.specs.Prelude.{◌≡◌, true, [], ◌∷◌, ◌++◌, map, ◌≤◌, length, take, drop};
+ghost use Rattle.std.specs.Prelude.{◌≡◌, true, [], ◌∷◌, ◌++◌, map, ◌≤◌, take, drop};
 ghost use Rattle.rules.specs.Limits.{limits, manifest_limit};
 ghost use Rattle.rules.specs.Lists.{keep, all};
 ghost use Rattle.rules.specs.State.{first_manifest};
@@ -9,7 +9,6 @@ ghost use Rattle.rules.specs.Step.{held_by};
 ghost use Rattle.rules.specs.Sound.{ordered};
 ghost use Rattle.holds.specs.Holds.{holds_of};
 ghost use Rattle.manifests.specs.Manifests.{lay_manifest, manifest_of, manifests_of, lay_manifests, current_of, older_of, is_list_laid, is_no_manifest, is_laid, epochs_follow, has_number, numbered, Repackable};
-ghost use Rattle.manifests.specs.Search.{search};
 ghost use Rattle.manifests.specs.Reach.{names_at, counts_at, lists_in, Searchable, reach_of};
 
 use holds::Holds;
@@ -214,49 +213,33 @@ impl Manifests {
     }
 }
 
-// Whether a list has the object, and how many names of it were read to tell. A sound list rises, so it is searched by halves.
-// stays: low and high in place of `binary_search`: `reach_of` promises how many names are read.
-fn search(list: &[u64], object: u64) -> (bool, usize)
-    requires { length list.now ≤ limits.names }
-    ensures found { result.0 ≡ (search object list.now).found }
-    ensures reads { result.1 ≡ (search object list.now).reads }
-{
-    let mut reads = 0;
-    let mut low = 0;
-    let mut high = list.len();
-    while low < high {
-        let middle = low + (high - low) / 2;
-        let name = list[middle];
-        reads += 1;
-        if name == object {
-            return (true, reads);
-        }
-        if name < object {
-            low = middle + 1;
-        } else {
-            high = middle;
-        }
-    }
-    (false, reads)
-}
-
 // Whether one of these lists names the object, and how many names of each were read to tell, counted where they are read.
-// The lists behind one that has the object are not searched.
-#[tactic(auto, using(crate::proofs::Reaching::list_few))]
+// A sound list rises, so it is searched by halves; the loops are left by the label once the object is found.
+// stays: nested loops left by a label: a rule of the project (docs/DECISIONS.md, "Forms").
+// stays: low and high in place of `binary_search`: `reach_of` promises how many names are read.
 pub fn reaches(names: &[[u64; NAMES]], counts: &[usize], object: u64) -> Reach
     requires { Searchable names.now counts.now }
     ensures { result ≡ reach_of (lists_in names.now counts.now) object }
 {
+    let mut found = false;
     let mut reads = [0; MANIFESTS];
-    for (i, count) in counts.iter().enumerate() {
-        let (found, read) = search(&names[i][..*count], object);
-        reads[i] = read;
-        if found {
-            return Reach { found: true, reads };
+    'all: for (i, count) in counts.iter().enumerate() {
+        let mut low = 0;
+        let mut high = *count;
+        while low < high {
+            let middle = low + (high - low) / 2;
+            let name = names[i][middle];
+            reads[i] += 1;
+            if name == object {
+                found = true;
+                break 'all;
+            }
+            if name < object {
+                low = middle + 1;
+            } else {
+                high = middle;
+            }
         }
     }
-    Reach {
-        found: false,
-        reads,
-    }
+    Reach { found, reads }
 }
