@@ -19,7 +19,7 @@ use Rattle.rules.proofs.Typed.{list-asks}
 use Rattle.rules.specs.declared.Step.{Step}
 use Rattle.std.specs.Prelude.{Option, Some, None}
 use Rattle.std.proofs.lemmas.Option.{none-some}
-use Rattle.std.proofs.Math.Option.{some-injective}
+use Rattle.std.specs.Option.{unwrap_or}
 use Rattle.records.specs.Format.{most_fields}
 use Rattle.records.specs.Walk.{Walked, Found, Broken, walk}
 use Rattle.records.specs.Steps.{fields_of, kind_from, formed, request_from, request_of_walk, request_of_tag, decode_step, step_read}
@@ -69,7 +69,7 @@ decoded_fits bs = whole (leb 3 (length bs) && eqb (claimed bs) (length bs - 3)) 
 module _ (l : Ledger) where
   read-asks : (q : Request) (p : Step) → Fits q → step_read q ≡ Some p → judged l (request_of p) ≡ judged l q
   read-asks Unreadable p f e = absurd (none-some p e)
-  read-asks (Asked t k names) p f e = ap (λ (r : Step). judged l (request_of r)) (sym (some-injective _ _ e)) ∙ ap (judged l) (list-asks t k names f)
+  read-asks (Asked t k names) p f e = ap (λ (r : Step). judged l (request_of r)) (sym (ap (λ (o : Option Step). unwrap_or o p) e)) ∙ ap (judged l) (list-asks t k names f)
 
   refused-asks : (q : Request) → step_read q ≡ None → judged l Unreadable ≡ judged l q
   refused-asks Unreadable e = refl
