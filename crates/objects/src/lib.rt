@@ -89,7 +89,7 @@ impl Objects {
     }
 
     // The highest number of the list that has this currency, 0 where there is none.
-    #[tactic(auto, using(crate::proofs::Places::currency_among_lem), unfolding(rules::specs::Lists::keep, rules::specs::Lists::maximum))]
+    #[tactic(auto, unfolding(rules::specs::Lists::keep, rules::specs::Lists::maximum))]
     pub fn highest(self, currency: u16, list: &[u64]) -> u64
         ensures { result ≡ maximum (of_currency_in self.items currency list.now) }
     {

@@ -13,13 +13,13 @@ use Rattle.std.proofs.lemmas.Iterator.{YieldsList-from_slice, YieldsList-from_zi
 use Rattle.std.proofs.lemmas.Iterator.Search.{all_from_yields_List}
 use Rattle.std.specs.List.{list_all, zip}
 use Rattle.std.specs.Simd.{first_chunks}
+use Rattle.std.proofs.lemmas.Simd.{map-map}
 use Rattle.rules.specs.declared.Object.{Object}
 use Rattle.rules.specs.Limits.{limits, word_count, word_bits}
-use Rattle.rules.specs.State.{occupied}
 use Rattle.rules.specs.Table.{nonzero}
 use Rattle.arrays.proofs.Lists.{map-take, map-drop}
 use Rattle.objects.specs.Occupancy.{word, words_of}
-use Rattle.objects.specs.Objects.{same, numbers_at}
+use Rattle.objects.specs.Objects.{same}
 use Rattle.objects.proofs.Places.{items_long, words_long}
 use Rattle.objects.proofs.Objects.is_laid.Goals as goal
 
@@ -35,10 +35,6 @@ each k (suc n) [] ns e = absurd (omega arith)
 each k (suc n) (w ∷ ws) ns e =
     rw (← map-take nonzero k ns, ← map-drop nonzero k ns) (ap (λ (b : Bool). eqb w (word (map nonzero (take k ns))) && b) (each k n ws (drop k ns) (omega arith)))
 
-both : (ps : List Object) → map nonzero (numbers_at ps) ≡ map occupied ps
-both [] = refl
-both (o ∷ os) = ap (λ (bs : List Bool). occupied o ∷ bs) (both os)
-
 pub returns : goal.returns
 returns c =
     let s = c.args.self in
@@ -50,4 +46,4 @@ returns c =
     (YieldsList-from_zip (YieldsList-from_slice s.occupancy (ap (λ (i : Iter ℕ). iter_rest i) c.zip.ensures.first ∙ c.iter.ensures.rest)) (YieldsList-from_slice _ (c.zip.ensures.second.0 ∙ chunks)))
     (λ x b q k. search (rules, tests))
     ∙ each word_bits word_count s.occupancy ns (words_long s _ c.well_formed.0)
-    ∙ ap (λ (bs : List Bool). same s.occupancy (words_of word_bits word_count bs)) (ap (map nonzero) c.numbers-numbers.ensures ∙ both s.items)
+    ∙ ap (λ (bs : List Bool). same s.occupancy (words_of word_bits word_count bs)) (ap (map nonzero) c.numbers-numbers.ensures ∙ map-map nonzero (λ (o : Object). o.number) s.items)
