@@ -171,7 +171,7 @@ module _ (ns : List ℕ) (i : ℕ) (h : i < length ns) where
   abbrev number : ℕ
   number = get_or ns i 0
 
-  pub distinct-next : among (take i ns) number ≡ false → distinct (keep nonzero (take i ns)) ≡ true → distinct (keep nonzero (take (i + 1) ns)) ≡ true
+  distinct-next : among (take i ns) number ≡ false → distinct (keep nonzero (take i ns)) ≡ true → distinct (keep nonzero (take (i + 1) ns)) ≡ true
   distinct-next e d = step (nonzero number) refl
     where
       step : (b : Bool) → nonzero number ≡ b → distinct (keep nonzero (take (i + 1) ns)) ≡ true

@@ -139,11 +139,6 @@ module _ (k w : ℕ) (h : w < 2 ^ k) where
       ∙ and_bit (flags k w) i (omega (arith, length-flags k w))
 
 -- ---- a store that is not full has a free place
-pub used_le : (bs : List Bool) → used bs ≤ length bs
-unfolding used
-used_le [] = omega arith
-used_le (b ∷ bs) = omega (arith, used_le bs, digit_le b)
-
 pub free-place : (bs : List Bool) → used bs < length bs → lowest_free bs < length bs
 unfolding used lowest_free
 free-place [] h = omega arith

