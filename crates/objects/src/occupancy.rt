@@ -23,7 +23,7 @@ pub(crate) fn word_of(numbers: &[u64]) -> u64
 fn lowest_in(bits: u64) -> usize
     ensures { result ≡ lowest_free (flags word_bits bits) }
 {
-    u64::trailing_zeros(!bits) as usize
+    (!bits).trailing_zeros() as usize
 }
 
 // The lowest free place, counted across the words in order; the number of places where none is free.
@@ -46,7 +46,7 @@ pub(crate) fn lowest_free(words: &[u64]) -> usize
 fn taken_in(bits: u64) -> u32
     ensures { result ≡ used (flags word_bits bits) }
 {
-    u64::count_ones(bits)
+    bits.count_ones()
 }
 
 // How many places are taken.
