@@ -1,4 +1,3 @@
 pub mod Lists
-pub mod Scan
 pub mod Sorting
 pub mod Packing

@@ -7,7 +7,7 @@ use Prim.Native.Nat.{ℕ, zero, suc, ◌+◌, ◌-◌, ◌≤◌, ◌<◌}
 use native.Mathlib.Nat.{sub-zero, not-suc-le-zero, le_of_suc-le-suc, le_refl}
 use native.Mathlib.Omega.{arith}
 use native.Mathlib.Numerals.{add-one}
-use lib.ListN.{length, get_or, take, drop, set, replicate, length-append, length-take, length-replicate, length-map, take-append-drop, length-drop}
+use lib.ListN.{length, get_or, take, drop, set, replicate, length-append, length-replicate, length-map, take-append-drop, length-drop}
 use lib.Seq.{take_all, take-suc, set-append_seam, append_snoc, take-append_seam, length-take-le, drop-append-add, drop-append_seam, get_or-append_seam}
 use Rattle.std.proofs.lemmas.List.{drop-replicate}
 use Rattle.rules.specs.Lists.{keep, any, all}
@@ -83,35 +83,6 @@ module _ {A : Type 0} where
   pub pad-none : (n : ℕ) (z : A) → pad n z [] ≡ replicate n z
   unfolding pad
   pad-none n z = ap (λ (k : ℕ). replicate k z) (sub-zero n)
-
--- A loop that packs: of the first i elements of l those that pass the test stand in front in the array a of k elements, n of them, and the rest is z.
-module _ {A : Type 0} (k : ℕ) (z : A) (p : A → Bool) (l : List A) where
-  pub record Packed (i n : ℕ) (a : List A) : Type 0 where
-    pub count : n ≡ length (keep p (take i l))
-    pub array : a ≡ pad k z (keep p (take i l))
-
-  pub packed_none : Packed 0 0 (replicate k z)
-  unfolding keep
-  packed_none = record { count = refl; array = sym (pad-none k z) }
-
-  module _ {i n : ℕ} {a : List A} (done : Packed i n a) where
-    pub packed_few : n ≤ i
-    packed_few = omega (arith, done.count, length-keep p (take i l), length-take i l)
-
-    pub packed_kept : (d : A) → i < length l → i < k → p (get_or l i d) ≡ true → Packed (i + 1) (n + 1) (set a n (get_or l i d))
-    packed_kept d h room t = record {
-      count = rw (keep-kept p l i d h t) (simp length-append (omega (arith, done.count)));
-      array = ap (λ (b : List A). set b n (get_or l i d)) done.array
-          ∙ ap (λ (m : ℕ). set (pad k z (keep p (take i l))) m (get_or l i d)) done.count
-          ∙ pad-set k z (keep p (take i l)) (get_or l i d) (omega (arith, packed_few, done.count))
-          ∙ ap (pad k z) (sym (keep-kept p l i d h t));
-    }
-
-    pub packed_left : (d : A) → i < length l → p (get_or l i d) ≡ false → Packed (i + 1) n a
-    packed_left d h t = record {
-      count = done.count ∙ ap length (sym (keep_left p l i d h t));
-      array = done.array ∙ ap (pad k z) (sym (keep_left p l i d h t));
-    }
 
 -- A loop that looks for an element that passes the test.
 module _ {A : Type 0} (p : A → Bool) where
@@ -255,9 +226,6 @@ module _ {A B : Type 0} (k : ℕ) (z : B) (f : A → B) (l : List A) where
 
     pub copied_all : k ≤ i → a ≡ map f l
     copied_all h = done.2 ∙ ap (λ (m : List A). pad k z (map f m)) (take_all i l (omega arith)) ∙ pad-full k z (map f l) (length-map l f ∙ done.1)
-
-pub filled-count : {A B : Type 0} (f : A → B) (i : ℕ) (l : List A) → i ≤ length l → i ≡ length (map f (take i l))
-filled-count f i l h = sym (length-map (take i l) f ∙ length-take-le i l h)
 
 -- An array that is laid out: behind the first places a test says that all is z, and so all is.
 module _ {A : Type 0} (z : A) (p : A → Bool) (is : (x : A) → p x ≡ true → x ≡ z) where

@@ -130,10 +130,6 @@ module _ (l : Ledger) (e : is_sound l ≡ true) (t x : ℕ) where
     pub read_names : take m.count m.names ≡ (read_by t (view l) x).names
     read_names = ap (λ (k : KeptManifest). take k.count k.names) is ∙ take-pad limits.names 0 (read_by t (view l) x).names
 
-    -- no more than a verdict's list has room for
-    pub read-few : length (take m.count m.names) ≤ limits.places
-    read-few = omega (arith, ap length read_names, read_short)
-
 -- the clock's setting leaves what is read
 keep_twice : {A : Type 0} (p : A → Bool) (l : List A) → keep p (keep p l) ≡ keep p l
 unfolding keep

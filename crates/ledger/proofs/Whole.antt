@@ -5,7 +5,6 @@ use mathlib.Core.Logic.{⊎_elim}
 use mathlib.Core.Bool.{Bool, true, false, cond, false≢true}
 use mathlib.Core.List.{List, [], ◌∷◌}
 use Prim.Native.Nat.{ℕ}
-use borrow.Author.Tests.{ltb-false}
 use native.Mathlib.Omega.{arith}
 use lib.Dec.{ltb}
 use Rattle.rules.specs.declared.Kind.{Kind}
@@ -102,14 +101,8 @@ module _ (l : Ledger) (p : Step) where
     door_said : can_say (request_of p) ≡ true
     door_said = passed.1
 
-    door_time : ltb p.time l.clock ≡ false
-    door_time = passed.2
-
     pub door_padded : is_padded p.list.count p.list.names ≡ true
     door_padded = (said p door_said).0
-
-    pub door_admits : Admitted l p.time p.kind (names_of p.list)
-    door_admits = record { is_sound = door_sound; formed = (said p door_said).1; on_time = ltb-false _ _ door_time }
 
     pub door_rules : ruled (Asked p.time p.kind (names_of p.list)) l ≡ step_of l p
     unfolding judged

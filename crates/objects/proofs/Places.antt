@@ -116,13 +116,6 @@ currency_among_lem os n = step (nonzero n) refl
     step true e = currency-beside n e os
     step false e = sym (ap (currency_in os) (eqb-true n 0 (not-false _ e)) ∙ find_zero os)
 
--- there is a currency for each number
-pub pair_long : {ns cs : List ℕ} (ps : List Object) → ns ≡ numbers_at ps → cs ≡ currencies_at ps → length ns ≤ length cs
-pair_long ps n c =
-    let a = ap length n ∙ length-map ps (λ (o : Object). o.number) in
-    let b = ap length c ∙ length-map ps (λ (o : Object). o.currency) in
-    omega arith
-
 -- Distinct numbers
 
 pub numbers_kept : (os : List Object) → numbers_in os ≡ keep nonzero (numbers_at os)

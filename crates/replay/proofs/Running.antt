@@ -10,7 +10,6 @@ use lib.Dec.{ltb}
 use lib.ListN.{length, take, drop, length-append, length-drop, drop_of_length-le}
 use lib.Seq.{length-take-le, take_all, take-append-add, take-append_seam, drop-append-add, drop-append_seam, drop-drop}
 use borrow.Author.Tests.{eq-eqb, ne_eqb}
-use denote.Enum.Declared.{tag_of, declared}
 use borrow.Rule.Slice.PartMut.{put_mid, same_len_mid}
 use Rattle.fields.specs.declared.Next.{Next}
 use Rattle.fields.specs.declared.Next.TheVariants.{End, Torn, Record}
@@ -24,7 +23,6 @@ use Rattle.replay.specs.declared.Ending.{Ending}
 use Rattle.replay.specs.declared.Ending.TheVariants.{Whole, Torn as EndsTorn, Full}
 use Rattle.replay.specs.Front.{answer_to, answer_bytes, Judgement, unchanged, judged_with, record_step, step_at, front_step}
 use Rattle.replay.specs.Replay.{Cut, cut_at, cut, Told, tell, Replay, ending_of, ending_at, replayed, replay_of}
-use Rattle.replay.specs.contracts.Front.{enum}
 use Rattle.replay.proofs.Cutting.{Found, next-found, cut-next}
 
 -- a run that ends at once
@@ -170,9 +168,6 @@ pub record Going (l₀ : Ledger) (trace out₀ out : List ℕ) (l : Ledger) (rea
   pub within : read ≤ length trace
   pub room : written ≤ length out
   pub long : length out ≡ length out₀
-
-pub at_start_lem : (l : Ledger) (trace out : List ℕ) → Going l trace out out l 0 0
-at_start_lem l trace out = record { same = alone (replay_of l trace out); within = omega arith; room = omega arith; long = refl }
 
 -- One turn: the front of what is left was judged, with the output from its middle on
 pub record Turn (l₀ : Ledger) (trace out₀ out : List ℕ) (l : Ledger) (read written : ℕ) (r : Stepped) (b : List ℕ) : Type 0 where

@@ -1,40 +1,23 @@
 -- Facts about the places of a list, which a test walks from the first to the last.
 -- Assumes nothing.
 use mathlib.Core.Path.{◌≡◌, refl, sym, ap, ◌∙◌}
-use mathlib.Core.Bool.{Bool, true, false, ◌&&◌}
+use mathlib.Core.Bool.{true}
 use mathlib.Core.List.{List, [], ◌∷◌, ◌++◌}
-use Prim.Native.Nat.{ℕ, zero, suc, ◌+◌, ◌-◌, ◌≤◌, ◌<◌}
+use Prim.Native.Nat.{ℕ, zero, suc, ◌+◌, ◌-◌, ◌≤◌}
 use native.Mathlib.Nat.{add_comm}
-use native.Mathlib.Numerals.{add-one}
 use native.Mathlib.Omega.{arith}
-use lib.Dec.{leb, ltb, eqb}
-use lib.ListN.{length, get_or, take, drop, replicate, drop_of_length-le, length-append, length-replicate, replicate-append-replicate}
-use lib.Seq.{drop-cons, take_at, drop_at, take-append-add, take-append_seam, drop-append_seam}
-use borrow.Author.Tests.{lt-leb, le-leb, leb-true, ne_eqb}
+use lib.Dec.{leb, eqb}
+use lib.ListN.{length, take, drop, replicate, length-append, length-replicate, replicate-append-replicate}
+use lib.Seq.{take_at, drop_at, take-append-add, take-append_seam, drop-append_seam}
+use borrow.Author.Tests.{le-leb, leb-true, ne_eqb}
 use Rattle.rules.specs.declared.Kind.{Kind}
 use Rattle.rules.specs.Limits.{limits}
 use Rattle.rules.specs.Request.{Asked}
-use Rattle.rules.specs.Lists.{all, none, rising_above}
+use Rattle.rules.specs.Lists.{all, none}
 use Rattle.rules.specs.Typed.{padded, is_padded, name_list, request_of}
 use Rattle.rules.proofs.Lists.{and_left, and_both}
 
 -- ---- a list that is tested from the front: one element more, or none left
-
-pub all_from : (p : ℕ → Bool) (l : List ℕ) (i : ℕ) → i < length l → all p (drop i l) ≡ (p (get_or l i 0) && all p (drop (i + 1) l))
-unfolding all
-all_from p l i h = rw (add-one, drop-cons l i 0 h)
-
-pub all_end : (p : ℕ → Bool) (l : List ℕ) (i : ℕ) → length l ≤ i → all p (drop i l) ≡ true
-unfolding all
-all_end p l i h = rw (drop_of_length-le l h)
-
-pub rising-from : (floor : ℕ) (l : List ℕ) (i : ℕ) → i < length l → rising_above floor (drop i l) ≡ (ltb floor (get_or l i 0) && rising_above (get_or l i 0) (drop (i + 1) l))
-unfolding rising_above
-rising-from floor l i h = rw (add-one, drop-cons l i 0 h)
-
-pub rising_end : (floor : ℕ) (l : List ℕ) (i : ℕ) → length l ≤ i → rising_above floor (drop i l) ≡ true
-unfolding rising_above
-rising_end floor l i h = rw (drop_of_length-le l h)
 
 pub length_none : (l : List ℕ) → eqb (length l) 0 ≡ none l
 unfolding none
@@ -42,10 +25,6 @@ length_none [] = refl
 length_none (n ∷ l) = ne_eqb (length (n ∷ l)) 0 (omega arith)
 
 -- ---- a list in its places
-
-pub padded-short : (count : ℕ) (l : List ℕ) → length l < count → is_padded count l ≡ false
-unfolding is_padded
-padded-short count l h = rw (lt-leb count (length l) h)
 
 pub padded-from : (count : ℕ) (l : List ℕ) → count ≤ length l → is_padded count l ≡ all (eqb 0) (drop count l)
 unfolding is_padded

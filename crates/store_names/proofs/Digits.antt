@@ -20,12 +20,6 @@ use Rattle.store_names.specs.Decimal.{largest, is_digit, all_digits, value_from,
 pub digit : (b : ℕ) → 48 ≤ b → b ≤ 57 → is_digit b ≡ true
 digit b low high = rw (le-leb 48 b low, le-leb b 57 high)
 
-pub below-digits : (b : ℕ) → b < 48 → is_digit b ≡ false
-below-digits b h = rw (lt-leb 48 b h)
-
-pub above_digits : (b : ℕ) → 57 < b → is_digit b ≡ false
-above_digits b h = rw (lt-leb b 57 h, and-false (leb 48 b))
-
 digit_bounds : (b : ℕ) → is_digit b ≡ true → (48 ≤ b) × (b ≤ 57)
 digit_bounds b h =
     let t = (and-eq-true_iff (leb 48 b) (leb b 57)).0 h in

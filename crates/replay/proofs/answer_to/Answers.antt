@@ -1,7 +1,7 @@
 -- `answer_to` meets its contract: the step that was read, or bytes that are none.
 -- Assumes nothing.
 use mathlib.Core.Path.{sym, ◌∙◌}
-use Rattle.replay.proofs.Reading.{read_judged, refused_judged}
+use Rattle.replay.proofs.Reading.{read_judged}
 use Rattle.replay.proofs.answer_to.Goals as goal
 
 pub returns-in-Some : goal.returns-in-Some

@@ -1,4 +1,3 @@
-use Prim.Native.Nat.{◌-◌}
 use native.Mathlib.Omega.{arith}
 use Rattle.replay.proofs.Running.{Turn, stops, some_read, read_within_lem, written-within, goes_again}
 use Rattle.replay.proofs.run.Goals.{After-step_record-stepped}

@@ -1,6 +1,6 @@
 -- `Ledger::live_row` meets its contract: row 15.
 -- Assumes nothing.
-use mathlib.Core.Path.{◌≡◌, sym, ◌∙◌}
+use mathlib.Core.Path.{sym, ◌∙◌}
 use borrow.Author.Tests.{eq-eqb, ne_eqb}
 use Rattle.rules.specs.Table.{first_of}
 use Rattle.holds.proofs.Places as holds
