@@ -6,8 +6,6 @@ pub mod ledgers;
 pub mod names;
 pub mod runs;
 
-use rules::Answer;
-
 // How many numbers a step and a verdict have, beside their lists.
 pub const STEP: usize = 11;
 
@@ -22,10 +20,3 @@ pub const NOT_SOUND: u64 = 1;
 pub const MALFORMED: u64 = 2;
 
 pub const NO_PLACE: u64 = 3;
-
-// An answer, or numbers that say none.
-#[derive(Clone, Copy)]
-pub enum AnswerRead {
-    Known(Answer),
-    Unknown,
-}
