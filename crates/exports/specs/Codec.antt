@@ -39,7 +39,7 @@ lent_both n m numbers list rest =
 
 -- 0 with both slices filled from the start by what was read, 2 with both as they were
 abbrev pub told : {A : Type 0} → Option A → (A → List ℕ) → (A → List ℕ) → List ℕ → List ℕ → Lent
-told {A} None a b numbers list = record { answer = reading_code {A} None; numbers = numbers; list = list }
+told {A = A} None a b numbers list = record { answer = reading_code {A = A} None; numbers = numbers; list = list }
 told (Some x) a b numbers list = record { answer = reading_code (Some x); numbers = over (a x) numbers; list = over (b x) list }
 
 abbrev pub written : Writing → Call
