@@ -6,11 +6,10 @@ ghost use Rattle.rules.specs.Limits.{limits};
 ghost use Rattle.records.specs.Writing.{write_code};
 ghost use Rattle.exports.specs.Codec.{step_size, verdict_size, step_numbers, kind_of, step_of, verdict_numbers, answer_of, read_step, write_step, read_verdict, write_verdict};
 
-use crate::{FULL, MALFORMED, NO_PLACE, STEP, VERDICT};
+use crate::{DONE, FULL, MALFORMED, NO_PLACE, STEP, VERDICT};
 use fields::{Next, WriteError};
+use ledger_numbers::role_number;
 use rules::{Answer, Kind, NAMES, NameList, ObjectList, PLACES, Step, Verdict};
-
-const READ: u64 = 0;
 
 // The writer's answer as a number.
 pub fn write_code(w: Result<usize, WriteError>) -> u64
@@ -36,25 +35,13 @@ pub fn cuudhaqil_next_record(trace: &[u8]) -> u64
 
 // Steps
 
-// stays: a table of numbers, since C sees no enum.
 // Kind, time, role, epoch, slot, object, currency, hold, manifest, expiry, and the list's count.
+// stays: a kind is a number, as the C interface has no enum.
 fn step_numbers(t: u64, kind: Kind, n: u64) -> [u64; STEP]
     ensures { result ≡ step_numbers t kind n }
 {
     match kind {
-        Kind::Fence { role, slot } => [
-            0,
-            t,
-            ledger_numbers::role_number(role),
-            0,
-            slot,
-            0,
-            0,
-            0,
-            0,
-            0,
-            n,
-        ],
+        Kind::Fence { role, slot } => [0, t, role_number(role), 0, slot, 0, 0, 0, 0, 0, n],
         Kind::Put {
             role,
             epoch,
@@ -63,7 +50,7 @@ fn step_numbers(t: u64, kind: Kind, n: u64) -> [u64; STEP]
         } => [
             1,
             t,
-            ledger_numbers::role_number(role),
+            role_number(role),
             epoch,
             0,
             object,
@@ -106,7 +93,7 @@ pub fn cuudhaqil_read_step(bytes: &[u8], numbers: &mut [u64], list: &mut [u64]) 
     let from = step_numbers(step.time, step.kind, step.list.count as u64);
     ledger_numbers::fill(&from, numbers);
     ledger_numbers::fill(&step.list.names, list);
-    READ
+    DONE
 }
 
 // The kind that the numbers of a step say; those that it does not have play no part.
@@ -187,7 +174,8 @@ pub fn cuudhaqil_write_step(numbers: &[u64], list: &[u64], out: &mut [u8]) -> u6
 // Verdicts
 
 // The answer's case, its value, and the list's count.
-fn verdict_numbers(answer: Answer, n: u64) -> [u64; VERDICT]
+// stays: a case is a number, as the C interface has no enum.
+pub fn verdict_numbers(answer: Answer, n: u64) -> [u64; VERDICT]
     ensures { result ≡ verdict_numbers answer n }
 {
     match answer {
@@ -222,7 +210,7 @@ pub fn cuudhaqil_read_verdict(bytes: &[u8], numbers: &mut [u64], list: &mut [u64
         return MALFORMED;
     };
     put_verdict(said, numbers, list);
-    READ
+    DONE
 }
 
 // The answer of that case and value.

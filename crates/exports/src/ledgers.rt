@@ -5,13 +5,10 @@ ghost use Rattle.ledger.specs.Step.{judged};
 ghost use Rattle.exports.specs.Codec.{step_size, kind_of};
 ghost use Rattle.exports.specs.Ledgers.{fresh, soundness, current, version, request_of, step};
 
-use crate::{NO_PLACE, NOT_SOUND, STEP, VERDICT, codec};
+use crate::{DONE, NO_PLACE, NOT_SOUND, STEP, VERDICT, codec};
 use ledger::{Ledger, StepAnswer};
 use ledger_numbers::LEDGER;
 use rules::{NAMES, PLACES};
-
-// What the calls answer where they did what was asked; of a ledger, that it is sound.
-const DONE: u64 = 0;
 
 // The current manifest's number, the writer's epoch, the compactor's.
 const CURRENT: usize = 3;

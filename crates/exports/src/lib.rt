@@ -11,6 +11,10 @@ pub const STEP: usize = 11;
 
 pub const VERDICT: usize = 3;
 
+// What a call answers that did what was asked; of a ledger, that it is sound.
+// stays: numbers, as each call of the C interface answers with one.
+const DONE: u64 = 0;
+
 // What the calls answer where there is nothing to answer with: room is short, no reader takes it, no place is lent.
 pub const FULL: u64 = 0;
 

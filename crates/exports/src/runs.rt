@@ -11,6 +11,7 @@ use replay::{Ending, Ran};
 // The bytes read, and the bytes written.
 const COUNTS: usize = 2;
 
+// stays: an ending is a number, as the C interface has no enum.
 fn ending_code(ending: Ending) -> u64
     ensures { result ≡ ending_code ending }
 {

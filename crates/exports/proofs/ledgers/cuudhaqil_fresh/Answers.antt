@@ -1,6 +1,6 @@
 -- `exports::ledgers::cuudhaqil_fresh` meets its contract: the numbers laid are as many as the part that is lent.
 -- Assumes nothing.
-use Rattle.std.proofs.Common.{rules, tests, arith, sym, ap, ◌∙◌, ◌≡◌, length}
+use Rattle.std.proofs.Common.{rules, tests, sym, ap, ◌∙◌, ◌≡◌, length}
 use Rattle.ledger.specs.Ledger.{lay}
 use Rattle.rules.specs.State.{fresh as fresh_state}
 use Rattle.ledger_numbers.specs.Numbers.{ledger_size, ledger_numbers}
