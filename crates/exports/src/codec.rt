@@ -47,19 +47,10 @@ fn step_numbers(t: u64, kind: Kind, n: u64) -> [u64; STEP]
             epoch,
             object,
             currency,
-        } => [
-            1,
-            t,
-            role_number(role),
-            epoch,
-            0,
-            object,
-            u64::from(currency),
-            0,
-            0,
-            0,
-            n,
-        ],
+        } => {
+            let (role, currency) = (role_number(role), u64::from(currency));
+            [1, t, role, epoch, 0, object, currency, 0, 0, 0, n]
+        }
         Kind::Commit { epoch, slot } => [2, t, 0, epoch, slot, 0, 0, 0, 0, 0, n],
         Kind::Compact {
             epoch,
@@ -102,8 +93,7 @@ fn kind_of(v: &[u64]) -> Option<Kind>
     requires { step_size ≤ length v.now }
     ensures { result ≡ kind_of v.now }
 {
-    let (epoch, slot, object) = (v[3], v[4], v[5]);
-    let (hold, manifest, expiry) = (v[7], v[8], v[9]);
+    let (epoch, slot, object, hold, expiry) = (v[3], v[4], v[5], v[7], v[9]);
     let kind = match v[0] {
         0 => Kind::Fence {
             role: records::role_from(v[2])?,
@@ -123,7 +113,7 @@ fn kind_of(v: &[u64]) -> Option<Kind>
         },
         4 => Kind::Hold {
             hold,
-            manifest,
+            manifest: v[8],
             expiry,
         },
         5 => Kind::Renew { hold, expiry },
