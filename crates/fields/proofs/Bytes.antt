@@ -3,13 +3,14 @@
 use mathlib.Core.Path.{◌≡◌, refl, sym, ap, ◌∙◌}
 use mathlib.Core.List.{List, [], ◌∷◌, ◌++◌, append_assoc, append-nil}
 use Prim.Native.Nat.{ℕ, zero, suc, ◌+◌, ◌-◌, ◌*◌, ◌^◌, ◌/◌, ◌%◌, ◌≤◌, ◌<◌}
-use native.Mathlib.Nat.{add-zero, zero-add, zero-mul, add-mul, mul_assoc, mul_comm, pow-suc, pow-le-pow_right, lt_of_lt_of_le, mod-lt, mod-one, mod-eq_of_lt}
+use native.Mathlib.Nat.{add-zero, zero-add, zero-mul, add-mul, mul_assoc, mul_comm, pow-suc, pow-le-pow_right, lt_of_lt_of_le, mod-lt, mod-one, mod-eq_of_lt, div-div-eq-div-mul}
 use native.Mathlib.Numerals.{add-one}
 use native.Mathlib.Omega.{arith}
 use lib.Arith.{digits_div, digits_mod, mod-mul}
 use lib.Dec.{lit<}
-use lib.ListN.{length, get_or, set, take, drop, drop_of_length-le, length-append, length-drop}
-use lib.Seq.{take-suc, drop-cons, drop-drop, set_split, take_at, drop_at, take-add, get_or-drop, length-take-le}
+use lib.ListN.{length, get_or, take, drop, drop_of_length-le, length-append, length-drop}
+use lib.Seq.{take-suc, drop-cons, drop-drop, take_at, drop_at, take-add, get_or-drop, length-take-le}
+use Rattle.std.specs.Int.{byte_at, bytes_high_first}
 use Rattle.fields.specs.Bytes.{be, value_from, value_of, kept64, words, words_of}
 
 -- ---- numbers that are all below a bound: bytes below 256, words below 2 ^ 64
@@ -45,6 +46,20 @@ be-last zero n h = absurd (omega arith)
 be-last (suc w) n h =
     let e : suc w - 1 ≡ w = omega arith in
     rw e refl
+
+-- the library's bytes of a number, the highest first, are these
+byte_next : (w n : ℕ) → byte_at (suc w) n ≡ byte_at w (n / 256)
+byte_next zero n = refl
+byte_next (suc w) n = rw (pow-suc 256 (suc w), mul_comm (256 ^ suc w) 256, div-div-eq-div-mul)
+
+byte_last : (w n : ℕ) → bytes_high_first (suc w) n ≡ bytes_high_first w (n / 256) ++ n % 256 ∷ []
+byte_last zero n = refl
+byte_last (suc w) n = rw (byte_next w n) (ap (λ (l : List ℕ). byte_at w (n / 256) ∷ l) (byte_last w n))
+
+pub high_first : (w n : ℕ) → bytes_high_first w n ≡ be w n
+unfolding be
+high_first zero n = refl
+high_first (suc w) n = byte_last w n ∙ ap (λ (l : List ℕ). l ++ n % 256 ∷ []) (high_first w (n / 256))
 
 one_byte : (b : ℕ) → b < 256 → Below 256 (b ∷ [])
 one_byte b h zero = h
@@ -138,25 +153,6 @@ kept_byte n b h = omega arith
 pub value_more : (l : List ℕ) (i : ℕ) → i < length l → value_of (take (i + 1) l) ≡ value_of (take i l) * 256 + get_or l i 0
 unfolding value_from
 value_more l i h = rw (add-one, take-suc l i 0 h, value-append)
-
--- ---- a byte stored at the front of what is left
-
-pub drop-set : (l : List ℕ) (i v : ℕ) → i < length l → drop i (set l i v) ≡ v ∷ drop (i + 1) l
-drop-set l i v h = rw (set_split l i v h, add-one) (drop_at (take i l) (v ∷ drop (suc i) l) i (length-take-le i l (omega arith)))
-
--- eight bytes stored one after the other are all there is
-pub eight_set : (l : List ℕ) (a b c d e f g h : ℕ) → length l ≡ 8
-    → set (set (set (set (set (set (set (set l 0 a) 1 b) 2 c) 3 d) 4 e) 5 f) 6 g) 7 h ≡ a ∷ b ∷ c ∷ d ∷ e ∷ f ∷ g ∷ h ∷ []
-eight_set l a b c d e f g h long =
-    ap (λ (m : List ℕ). set (set (set (set (set (set (set (set m 0 a) 1 b) 2 c) 3 d) 4 e) 5 f) 6 g) 7 h)
-    (at 0 (omega arith) ∙ ap (cons 0) (at 1 (omega arith) ∙ ap (cons 1) (at 2 (omega arith) ∙ ap (cons 2) (at 3 (omega arith) ∙ ap (cons 3)
-    (at 4 (omega arith) ∙ ap (cons 4) (at 5 (omega arith) ∙ ap (cons 5) (at 6 (omega arith) ∙ ap (cons 6) (at 7 (omega arith) ∙ ap (cons 7) (drop_of_length-le l {i = 8} (omega arith))))))))))
-  where
-    cons : ℕ → List ℕ → List ℕ
-    cons i m = get_or l i 0 ∷ m
-
-    at : (i : ℕ) → i < length l → drop i l ≡ cons i (drop (suc i) l)
-    at i k = drop-cons l i 0 k
 
 -- ---- numbers of eight bytes
 

@@ -1,8 +1,6 @@
 -- A field (document 01, "Records and names"): "a one-byte tag, a two-byte length and a value, big-endian".
 -- Assumes nothing.
-use Rattle.std.specs.Prelude.{cond, ◌&&◌, List, ◌∷◌, ◌++◌, ℕ, ◌+◌, ◌-◌, leb, ltb, eqb, length, take, drop, get_or}
-use Rattle.fields.specs.declared.Head.{Head}
-use Rattle.fields.specs.declared.Head.TheVariants.{Holds, Bad}
+use Rattle.std.specs.Prelude.{Option, Some, None, cond, ◌&&◌, List, ◌∷◌, ◌++◌, ℕ, ◌+◌, ◌-◌, leb, ltb, eqb, length, take, drop, get_or}
 use Rattle.fields.specs.declared.Next.{Next}
 use Rattle.fields.specs.declared.Next.TheVariants.{End, Torn, Record}
 use Rattle.fields.specs.Bytes.{be, value_of}
@@ -16,8 +14,8 @@ abbrev pub claimed : List ℕ → ℕ
 claimed bs = value_of (take 2 (drop 1 bs))
 
 -- how many bytes the value of the field at the front has, where its tag is this one and all of it is there
-unfoldable pub head_of : ℕ → List ℕ → Head
-head_of tag bs = cond (leb 3 (length bs) && (eqb (get_or bs 0 0) tag && leb (claimed bs) (length bs - 3))) (Holds (claimed bs)) Bad
+unfoldable pub head_of : ℕ → List ℕ → Option ℕ
+head_of tag bs = cond (leb 3 (length bs) && (eqb (get_or bs 0 0) tag && leb (claimed bs) (length bs - 3))) (Some (claimed bs)) None
 
 -- bytes over the start of others, which they are not longer than; those beyond stay
 abbrev pub over : List ℕ → List ℕ → List ℕ

@@ -1,15 +1,14 @@
 -- Facts about what stands at the front of bytes: a whole record, and the field that a walk comes to.
 -- Assumes nothing.
-use mathlib.Core.Path.{◌≡◌, refl, ◌∙◌}
-use mathlib.Core.Bool.{Bool, true, false, cond, ◌&&◌, false≢true}
+use Rattle.std.proofs.Common.{Option, Some, None, IfSome}
+use mathlib.Core.Path.{◌≡◌, refl, ◌∙◌, subst}
+use mathlib.Core.Bool.{Bool, true, false, cond, ◌&&◌}
 use mathlib.Core.List.{List, ◌∷◌}
 use Prim.Native.Nat.{ℕ, ◌+◌, ◌-◌, ◌/◌, ◌%◌, ◌≤◌}
 use native.Mathlib.Omega.{arith}
 use lib.Dec.{leb, eqb}
-use lib.ListN.{length, take, drop, length-drop}
+use lib.ListN.{length, take, drop}
 use borrow.Author.Tests.{le-leb, eq-eqb, ne_eqb, leb-true, leb-false, eqb-true, eqb-false}
-use Rattle.fields.specs.declared.Head.{Head}
-use Rattle.fields.specs.declared.Head.TheVariants.{Holds, Bad}
 use Rattle.fields.specs.declared.Next.{Next}
 use Rattle.fields.specs.declared.Next.TheVariants.{End, Torn, Record}
 use Rattle.fields.specs.Bytes.{value_of, kept64, words_of}
@@ -19,7 +18,7 @@ use Rattle.rules.proofs.Lists.{and_left, and_right, and_both, bool_ext}
 use Rattle.records.specs.declared.Field.{Field}
 use Rattle.records.specs.declared.Held.{Held}
 use Rattle.records.specs.Walk.{Walked, Found, Broken, list_then, number_then, head_then, walk}
-use Rattle.records.specs.Found.{is_whole, absent, present, held_as, held}
+use Rattle.records.specs.Found.{is_whole, present, held_as, held}
 
 -- ---- a whole record
 
@@ -48,19 +47,6 @@ whole_next_lem bs = sum_test (claimed bs) (length bs) ∙ by (leb (3 + claimed b
         let short = leb-false (3 + claimed bs) (length bs) e in
         rw (next-torn bs (omega (arith, eqb-false (length bs) 0 z)) short) (ne_eqb (3 + claimed bs) (length bs) (omega arith))
 
--- the same behind the first bytes
-pub whole-behind : (a : ℕ) (bs : List ℕ) → a ≤ length bs → is_whole (drop a bs) ≡ eqb (a + 3 + claimed (drop a bs)) (length bs)
-whole-behind a bs h = sum_test (claimed (drop a bs)) (length (drop a bs)) ∙ bool_ext (eqb (3 + claimed (drop a bs)) (length (drop a bs))) (eqb (a + 3 + claimed (drop a bs)) (length bs)) there back
-  where
-    there : eqb (3 + claimed (drop a bs)) (length (drop a bs)) ≡ true → eqb (a + 3 + claimed (drop a bs)) (length bs) ≡ true
-    there e = eq-eqb (a + 3 + claimed (drop a bs)) (length bs) (omega (arith, eqb-true (3 + claimed (drop a bs)) (length (drop a bs)) e, length-drop a bs))
-
-    back : eqb (a + 3 + claimed (drop a bs)) (length bs) ≡ true → eqb (3 + claimed (drop a bs)) (length (drop a bs)) ≡ true
-    back e = eq-eqb (3 + claimed (drop a bs)) (length (drop a bs)) (omega (arith, eqb-true (a + 3 + claimed (drop a bs)) (length bs) e, length-drop a bs))
-
-pub whole_room : (bs : List ℕ) → is_whole bs ≡ true → 3 ≤ length bs
-whole_room bs e = leb-true 3 (length bs) (and_left (leb 3 (length bs)) (eqb (claimed bs) (length bs - 3)) e)
-
 -- ---- the field that a walk comes to
 
 -- a number, and then what was found behind it; a list stands before one that was found behind it
@@ -79,27 +65,31 @@ push-number n l Broken = refl
 push-number n l (Found v rest) = refl
 
 module _ (f : Field) (s : List ℕ) where
-  abbrev held_by : Bool → Bool → Bool → ℕ → Held
-  held_by list even same n = cond list (cond even (present n 0) absent) (cond same (present n (kept64 (value_of (take n (drop 3 s))))) absent)
-
-  room_by : (list even same : Bool) (n : ℕ) → 3 + n ≤ length s → (held_by list even same n).whole ≡ true → 3 + (held_by list even same n).len ≤ length s
-  room_by true true same n h e = h
-  room_by true false same n h e = absurd (false≢true e)
-  room_by false even true n h e = h
-  room_by false even false n h e = absurd (false≢true e)
+  abbrev held_by : Bool → Bool → Bool → ℕ → Option Held
+  held_by list even same n = cond list (cond even (present n 0) None) (cond same (present n (kept64 (value_of (take n (drop 3 s))))) None)
 
   -- all of it is there
-  pub held-room : (held f s).whole ≡ true → 3 + (held f s).len ≤ length s
+  abbrev HasRoom : Option Held → Type 0
+  HasRoom o = IfSome o (λ h. 3 + h.len ≤ length s)
+
+  room_by : (list even same : Bool) (n : ℕ) → 3 + n ≤ length s → HasRoom (held_by list even same n)
+  room_by true true same n h = h
+  room_by true false same n h = tt
+  room_by false even true n h = h
+  room_by false even false n h = tt
+
+  pub held-room : (h : Held) → held f s ≡ Some h → 3 + h.len ≤ length s
   unfolding held
-  held-room = by (head_of f.tag s) refl
+  held-room h e = subst HasRoom e (by (head_of f.tag s) refl)
     where
-      by : (d : Head) → head_of f.tag s ≡ d → (held_as f s d).whole ≡ true → 3 + (held_as f s d).len ≤ length s
-      by Bad e h = absurd (false≢true h)
-      by (Holds n) e h = room_by (eqb f.width 0) (eqb (n % 8) 0) (eqb n f.width) n (head_read f.tag n s e).2 h
+      by : (d : Option ℕ) → head_of f.tag s ≡ d → HasRoom (held_as f s d)
+      by None e = tt
+      by (Some n) e = room_by (eqb f.width 0) (eqb (n % 8) 0) (eqb n f.width) n (head_read f.tag n s e).2
 
   module _ (fs : List Field) where
-    abbrev pub after : Bool → Held → Walked
-    after list h = cond h.whole (push list h.number (words_of (h.len / 8) (drop 3 s)) (walk fs (drop (3 + h.len) s))) Broken
+    abbrev pub after : Bool → Option Held → Walked
+    after list None = Broken
+    after list (Some h) = push list h.number (words_of (h.len / 8) (drop 3 s)) (walk fs (drop (3 + h.len) s))
 
     after-by : (list even same : Bool) (n : ℕ)
         → cond list (cond even (list_then (words_of (n / 8) (drop 3 s)) (walk fs (drop (3 + n) s))) Broken)
@@ -114,6 +104,6 @@ module _ (f : Field) (s : List ℕ) where
     unfolding walk held
     walk-held = by (head_of f.tag s) refl
       where
-        by : (d : Head) → head_of f.tag s ≡ d → head_then f s d (walk fs (drop (3 + claimed s) s)) ≡ after (eqb f.width 0) (held_as f s d)
-        by Bad e = refl
-        by (Holds n) e = rw (head_read f.tag n s e).1 (after-by (eqb f.width 0) (eqb (n % 8) 0) (eqb n f.width) n)
+        by : (d : Option ℕ) → head_of f.tag s ≡ d → head_then f s d (walk fs (drop (3 + claimed s) s)) ≡ after (eqb f.width 0) (held_as f s d)
+        by None e = refl
+        by (Some n) e = rw (head_read f.tag n s e).1 (after-by (eqb f.width 0) (eqb (n % 8) 0) (eqb n f.width) n)

@@ -1,5 +1,7 @@
 -- Facts about the bytes of fields: their lengths, and pieces written one behind the other.
 -- Assumes nothing.
+use Rattle.std.proofs.Common.{Ok, Err}
+use Rattle.fields.specs.declared.WriteError.TheVariants.{Full}
 use mathlib.Core.Path.{◌≡◌, refl, sym, ap, ◌∙◌}
 use mathlib.Core.Bool.{Bool, true, false}
 use mathlib.Core.List.{List, [], ◌∷◌, ◌++◌, append_assoc, append-nil}
@@ -17,7 +19,6 @@ use Rattle.rules.specs.Limits.{limits}
 use Rattle.records.specs.declared.Field.{Field}
 use Rattle.records.specs.Format.{content, bytes_of}
 use Rattle.records.specs.Found.{is_narrow}
-use Rattle.records.specs.declared.Write.TheVariants.{Written, Full}
 use Rattle.records.specs.Writing.{writing}
 
 -- ---- a field's value
@@ -96,13 +97,13 @@ module _ (l : List ℕ) where
 
 -- ---- a record at the start of a buffer
 
-pub record_full : (tag : ℕ) (v out : List ℕ) → length out < 3 + length v → writing true (field tag v) out ≡ record { answer = Full; buffer = out }
+pub record_full : (tag : ℕ) (v out : List ℕ) → length out < 3 + length v → writing true (field tag v) out ≡ record { answer = Err Full; buffer = out }
 record_full tag v out h = rw (lt-ltb (length out) (length (field tag v)) (omega (arith, length-field tag v)))
 
 pub record_put : (tag n : ℕ) (v out o w : List ℕ) → n ≡ length v → 3 + n ≤ length out → o ≡ over (tag ∷ be 2 n) out → w ≡ v
-    → writing true (field tag v) out ≡ record { answer = Written (3 + n); buffer = take 3 o ++ (w ++ drop (3 + n - 3) (drop 3 o)) }
+    → writing true (field tag v) out ≡ record { answer = Ok (3 + n); buffer = take 3 o ++ (w ++ drop (3 + n - 3) (drop 3 o)) }
 record_put tag n v out o w e room p q =
     let rest : 3 + n - 3 ≡ n = omega arith in
     let long : length (field tag v) ≡ 3 + n = omega (arith, length-field tag v) in
     let put : over (field tag v) out ≡ take 3 o ++ (w ++ drop (3 + n - 3) (drop 3 o)) = rw (rest, q) (sym (field_put tag n v out o e room p)) in
-    rw (le-ltb (length out) (length (field tag v)) (omega arith)) (λ i. record { answer = Written (long i); buffer = put i })
+    rw (le-ltb (length out) (length (field tag v)) (omega arith)) (λ i. record { answer = Ok (long i); buffer = put i })

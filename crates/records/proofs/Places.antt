@@ -3,36 +3,27 @@
 use mathlib.Core.Path.{◌≡◌, refl, sym, ◌∙◌}
 use mathlib.Core.Bool.{Bool, true, false}
 use mathlib.Core.List.{List, [], ◌∷◌, ◌++◌}
-use Prim.Native.Nat.{ℕ, zero, suc, ◌+◌, ◌-◌, ◌≤◌, ◌<◌}
-use native.Mathlib.Numerals.{add-one}
+use Prim.Native.Nat.{ℕ, zero, suc, ◌<◌}
 use native.Mathlib.Omega.{arith}
-use lib.ListN.{length, get_or, take, drop, set, replicate, length-take, length-drop, drop_of_length-le}
-use lib.Seq.{drop-cons, get_or-take, take_all, take-suc-set}
+use lib.ListN.{length, get_or, take, replicate, length-take}
+use lib.Seq.{get_or-take}
 use borrow.Author.Tests.{ne_eqb}
 use Rattle.rules.specs.Lists.{all, none}
 use Rattle.rules.proofs.Lists.{and_left, and_right}
 use Rattle.rules.proofs.Typed.{length_none}
 
-module _ {A : Type 0} where
-  pub rest_cons : (l : List A) (n i : ℕ) (d : A) → i < n → n ≤ length l → drop i (take n l) ≡ get_or l i d ∷ drop (i + 1) (take n l)
-  rest_cons l n i d h k = rw (add-one, drop-cons (take n l) i d (simp length-take (omega arith)), get_or-take n l i d h)
-
-  pub rest-none : (l : List A) (n i : ℕ) → n ≤ i → drop i (take n l) ≡ []
-  rest-none l n i h = drop_of_length-le (take n l) {i = i} (simp length-take (omega arith))
-
-  -- one place more
-  pub take-set : (l : List A) (i : ℕ) (x : A) → i < length l → take (i + 1) (set l i x) ≡ take i l ++ x ∷ []
-  take-set l i x h = rw add-one (take-suc-set l i x h)
-
-  -- a part that goes to the end
-  pub tail : (a : ℕ) (l : List A) → take (length l - a) (drop a l) ≡ drop a l
-  tail a l = take_all (length l - a) (drop a l) (simp length-drop (omega arith))
-
-  pub all-at : (p : A → Bool) (l : List A) (i : ℕ) (d : A) → all p l ≡ true → i < length l → p (get_or l i d) ≡ true
+module _ {A : Type 0} (p : A → Bool) where
+  pub all-at : (l : List A) (i : ℕ) (d : A) → all p l ≡ true → i < length l → p (get_or l i d) ≡ true
   unfolding all
-  all-at p [] i d e h = absurd (omega arith)
-  all-at p (x ∷ xs) zero d e h = and_left (p x) (all p xs) e
-  all-at p (x ∷ xs) (suc i) d e h = all-at p xs i d (and_right (p x) (all p xs) e) (omega arith)
+  all-at [] i d e h = absurd (omega arith)
+  all-at (x ∷ xs) zero d e h = and_left (p x) (all p xs) e
+  all-at (x ∷ xs) (suc i) d e h = all-at xs i d (and_right (p x) (all p xs) e) (omega arith)
+
+  -- of the first places too
+  pub all-taken : (l : List A) (n i : ℕ) (d : A) → all p l ≡ true → i < length (take n l) → p (get_or (take n l) i d) ≡ true
+  all-taken l n i d e h =
+      let inside : i < n = omega (arith, simp length-take at h) in
+      rw get_or-take (all-at l i d e (omega (arith, simp length-take at h)))
 
 -- past the zeros there are zeros too
 pub zeros_get : (k i : ℕ) → ◌≡◌ {A = ℕ} (get_or (replicate k 0) i 0) 0

@@ -1,5 +1,7 @@
 -- Reading and writing steps undo each other, and all else is refused; and how long a step is at most.
 -- Assumes nothing.
+use Rattle.std.specs.Option.{option_map}
+use Rattle.std.proofs.Common.{Option, Some, None}
 use mathlib.Core.Path.{◌≡◌, refl, subst}
 use mathlib.Core.Bool.{Bool, true, false, cond}
 use mathlib.Core.List.{List, [], ◌∷◌, map}
@@ -19,8 +21,6 @@ use Rattle.rules.specs.Limits.{limits, currency_limit}
 use Rattle.rules.specs.Table.{well_formed}
 use Rattle.rules.proofs.Lists.{conj-true}
 use Rattle.records.specs.declared.Field.{Field}
-use Rattle.records.specs.declared.KindRead.{KindRead}
-use Rattle.records.specs.declared.KindRead.TheVariants.{Known, Unknown}
 use Rattle.records.specs.Format.{role_code, most_fields}
 use Rattle.records.specs.Found.{is_whole}
 use Rattle.records.specs.Walk.{Walked, Found, Broken, walk}
@@ -32,10 +32,10 @@ use Rattle.records.proofs.RoundTripRecords.{picked, fit_at, is_tidy, Beside, emp
 -- ---- reading what was written
 
 -- the kind of an outer tag with every number 0
-abbrev blank_kind : ℕ → KindRead
+abbrev blank_kind : ℕ → Option Kind
 blank_kind tag = kind_from tag (replicate most_fields 0)
 
-role-read : (r : Role) (k : Role → Kind) → with_role (role_code r) k ≡ Known (k r)
+role-read : (r : Role) (k : Role → Kind) → with_role (role_code r) k ≡ Some (k r)
 role-read Writer k = refl
 role-read Compactor k = refl
 
@@ -77,27 +77,30 @@ reads_written_lem t k l well fit =
 -- ---- writing what was read
 
 -- the fields that a record of this outer tag has
-abbrev fields_read : KindRead → List Field
-fields_read Unknown = []
-fields_read (Known k) = fields_of 0 k
+abbrev fields_read : Option Kind → List Field
+fields_read None = []
+fields_read (Some k) = fields_of 0 k
 
 abbrev tag_fields : ℕ → List Field
 tag_fields tag = fields_read (blank_kind tag)
 
 -- a kind that was read has this outer tag, and its fields are those of the tag with the numbers read, where these fit
-abbrev Reads : ℕ → List ℕ → KindRead → Type 0
-Reads tag v Unknown = Unit {0}
-Reads tag v (Known k) = (outer_tag k ≡ tag) × (all fits (filled (tag_fields tag) v) ≡ true → filled (tag_fields tag) v ≡ fields_of (get_or v 0 0) k)
+abbrev Reads : ℕ → List ℕ → Option Kind → Type 0
+Reads tag v None = Unit {0}
+Reads tag v (Some k) = (outer_tag k ≡ tag) × (all fits (filled (tag_fields tag) v) ≡ true → filled (tag_fields tag) v ≡ fields_of (get_or v 0 0) k)
 
 module _ (v : List ℕ) where
   -- of this outer tag, or of another
   at : (tag T : ℕ) → Reads T v (kind_from T v) → (eqb tag T ≡ false → Reads tag v (kind_from tag v)) → Reads tag v (kind_from tag v)
   at tag T here others = split (eqb tag T) (λ e. rw (eqb-true tag T e) here) others
 
-  with_role_lem : (tag n : ℕ) (k : Role → Kind) → ((r : Role) → n ≡ role_code r → Reads tag v (Known (k r))) → Reads tag v (with_role n k)
+  with_role_lem : (tag n : ℕ) (k : Role → Kind) → ((r : Role) → n ≡ role_code r → Reads tag v (Some (k r))) → Reads tag v (with_role n k)
   with_role_lem tag n k each =
-      picked (Reads tag v) (eqb n 0) (Known (k Writer)) (cond (eqb n 1) (Known (k Compactor)) Unknown) (λ e. each Writer (eqb-true n 0 e))
-      (λ e. picked (Reads tag v) (eqb n 1) (Known (k Compactor)) Unknown (λ f. each Compactor (eqb-true n 1 f)) (λ f. tt))
+      picked with (eqb n 0) (Some Writer) (cond (eqb n 1) (Some Compactor) None) (λ e. each Writer (eqb-true n 0 e))
+      (λ e. picked with (eqb n 1) (Some Compactor) None (λ f. each Compactor (eqb-true n 1 f)) (λ f. tt))
+    where
+      with : Option Role → Type 0
+      with r = Reads tag v (option_map k r)
 
   kind_read : (tag : ℕ) → Reads tag v (kind_from tag v)
   unfolding kind_from filled_from
@@ -123,13 +126,13 @@ module _ (bs : List ℕ) where
   well : (t : ℕ) (k : Kind) (l : List ℕ) → outer_tag k ≡ get_or bs 0 0 → Rewrites bs l (fields_of t k) → WrittenAs bs (formed (Asked t k l))
   well t k l tag r = picked (WrittenAs bs) (well_formed limits t k l) (Asked t k l) Unreadable (λ e. (e, r.0, rw tag r.1)) (λ e. tt)
 
-  walked : (k₀ : Kind) → blank_kind (get_or bs 0 0) ≡ Known k₀ → (w : Walked) → RewritesBy bs (fields_of 0 k₀) w → WrittenAs bs (request_of_walk (get_or bs 0 0) w)
+  walked : (k₀ : Kind) → blank_kind (get_or bs 0 0) ≡ Some k₀ → (w : Walked) → RewritesBy bs (fields_of 0 k₀) w → WrittenAs bs (request_of_walk (get_or bs 0 0) w)
   walked k₀ e Broken u = tt
   walked k₀ e (Found v l) u = known (kind_from (get_or bs 0 0) v) (kind_read v (get_or bs 0 0))
     where
-      known : (r : KindRead) → Reads (get_or bs 0 0) v r → WrittenAs bs (request_from v l r)
-      known Unknown s = tt
-      known (Known k) s = well (get_or v 0 0) k l s.0 (rewrites_as bs l (filled (fields_of 0 k₀) v) (fields_of (get_or v 0 0) k) u (rw e at s.1))
+      known : (r : Option Kind) → Reads (get_or bs 0 0) v r → WrittenAs bs (request_from v l r)
+      known None s = tt
+      known (Some k) s = well (get_or v 0 0) k l s.0 (rewrites_as bs l (filled (fields_of 0 k₀) v) (fields_of (get_or v 0 0) k) u (rw e at s.1))
 
   writes : are_bytes bs ≡ true → WrittenAs bs (decode_step bs)
   unfolding decode_step
@@ -137,9 +140,9 @@ module _ (bs : List ℕ) where
       picked (WrittenAs bs) (is_whole bs) (request_of_tag (get_or bs 0 0) (drop 3 bs) (blank_kind (get_or bs 0 0))) Unreadable
       (λ whole. kind whole (blank_kind (get_or bs 0 0)) refl) (λ torn. tt)
     where
-      kind : is_whole bs ≡ true → (r : KindRead) → blank_kind (get_or bs 0 0) ≡ r → WrittenAs bs (request_of_tag (get_or bs 0 0) (drop 3 bs) r)
-      kind whole Unknown e = tt
-      kind whole (Known k₀) e = walked k₀ e (walk (fields_of 0 k₀) (drop 3 bs)) (record_read (fields_of 0 k₀) bs (line 0 k₀).tidy bytes whole)
+      kind : is_whole bs ≡ true → (r : Option Kind) → blank_kind (get_or bs 0 0) ≡ r → WrittenAs bs (request_of_tag (get_or bs 0 0) (drop 3 bs) r)
+      kind whole None e = tt
+      kind whole (Some k₀) e = walked k₀ e (walk (fields_of 0 k₀) (drop 3 bs)) (record_read (fields_of 0 k₀) bs (line 0 k₀).tidy bytes whole)
 
 writes_read_lem : (bs : List ℕ) (t : ℕ) (k : Kind) (l : List ℕ) → are_bytes bs ≡ true → decode_step bs ≡ Asked t k l → WrittenAs bs (Asked t k l)
 writes_read_lem bs t k l bytes h = subst (WrittenAs bs) h (writes bs bytes)

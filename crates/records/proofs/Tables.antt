@@ -1,19 +1,19 @@
 -- Facts about the tables: the fields of each record stand in their places, and a place behind them is 0.
 -- Assumes nothing.
+use Rattle.std.proofs.Common.{Option, Some, None}
 use mathlib.Core.Path.{◌≡◌, refl, sym, ap, ap₂, ◌∙◌}
 use mathlib.Core.Bool.{true}
 use mathlib.Core.List.{List, ◌++◌}
 use Prim.Native.Nat.{ℕ, ◌-◌}
 use lib.Dec.{lit≤}
-use lib.ListN.{length, replicate}
+use lib.ListN.{length, drop, replicate}
+use Rattle.std.proofs.lemmas.List.{drop-replicate}
 use lib.Seq.{take-append_seam}
 use Rattle.rules.specs.declared.Kind.{Kind}
 use Rattle.rules.specs.declared.Kind.TheVariants.{Fence as FENCE, Put as PUT, Commit as COMMIT, Compact as COMPACT, Hold as HOLD, Renew as RENEW, Release as RELEASE, List as LIST, Look as LOOK, Collect as COLLECT}
 use Rattle.rules.specs.Lists.{all}
 use Rattle.records.specs.declared.Field.{Field}
 use Rattle.records.specs.declared.Fields.{Fields}
-use Rattle.records.specs.declared.KindRead.{KindRead}
-use Rattle.records.specs.declared.KindRead.TheVariants.{Known, Unknown}
 use Rattle.records.specs.Format.{most_fields, inner, record_of, in_places}
 use Rattle.records.specs.Found.{fields_in, Placed, in_numbers, placed_all}
 use Rattle.records.specs.Walk.{Walked, Found as FieldsFound, Broken}
@@ -23,6 +23,9 @@ use Rattle.records.proofs.Places.{padded_get}
 
 pub fields_in_lem : (fs : List Field) → fields_in (in_places fs) ≡ fs
 fields_in_lem fs = take-append_seam fs (replicate (most_fields - length fs) (inner 0 0 0))
+
+pub fields_filled : (n : ℕ) (fs : List Field) → length fs ≡ n → ◌≡◌ {A = Fields} (record { count = n; items = fs ++ drop n (replicate most_fields (inner 0 0 0)) }) (in_places fs)
+fields_filled n fs e = rw (← e, drop-replicate)
 
 -- what is written of fields in their places
 pub record_written : (tag k : ℕ) (p : Fields) (fs : List Field) (l out : List ℕ) (w : Writing) → k ≡ tag → p ≡ in_places fs → writing true (record_of k (fields_in p) l) out ≡ w → writing true (record_of tag fs l) out ≡ w
@@ -51,6 +54,6 @@ pub request_placed : (tag : ℕ) (w : Walked) → request_of_walk tag (placed_al
 request_placed tag Broken = refl
 request_placed tag (FieldsFound v l) = rw (kind_placed tag v (most_fields - length v)) (by (kind_from tag v))
   where
-    by : (k : KindRead) → request_from (in_numbers v) l k ≡ request_from v l k
-    by Unknown = refl
-    by (Known k) = rw (padded_get v (most_fields - length v) 0)
+    by : (k : Option Kind) → request_from (in_numbers v) l k ≡ request_from v l k
+    by None = refl
+    by (Some k) = rw (padded_get v (most_fields - length v) 0)

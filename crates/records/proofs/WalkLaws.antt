@@ -1,5 +1,6 @@
 -- Laws of inner fields, each over the list of fields: how long they are, that a walk finds what was written, and that what a walk finds is written as the bytes.
 -- Assumes nothing.
+use Rattle.std.proofs.Common.{Option, Some, None}
 use mathlib.Core.Path.{◌≡◌, refl, sym, ap, ap₂, ◌∙◌}
 use mathlib.Core.Bool.{Bool, true, false, not, cond, ◌&&◌, ◌||◌}
 use mathlib.Core.List.{List, [], ◌∷◌, ◌++◌, map, append_assoc}
@@ -10,8 +11,6 @@ use lib.Dec.{ltb, eqb, lit<}
 use lib.ListN.{length, get_or, take, drop, length-append, length-drop, take-append-drop}
 use lib.Seq.{take_at, drop_at, length-take-le}
 use borrow.Author.Tests.{leb-true, eq-eqb, eqb-true, ltb-true, lt-ltb, not-true}
-use Rattle.fields.specs.declared.Head.{Head}
-use Rattle.fields.specs.declared.Head.TheVariants.{Holds, Bad}
 use Rattle.fields.specs.Bytes.{be, value_of, kept64, words, words_of}
 use Rattle.fields.specs.Fields.{field, claimed, head_of}
 use Rattle.fields.proofs.Bytes.{Below, below-drop, below-take, length-be, length-words, value-be-fits, value-below, kept, kept-value, be-value, words_of-words, words-words_of, words_of-below}
@@ -48,9 +47,9 @@ abbrev pub list_in : List Field → List ℕ → List ℕ
 list_in fs l = cond (any is_list fs) l []
 
 -- a walk looks at tags and widths alone
-head-blank : (f : Field) (bs : List ℕ) (h : Head) (w : Walked) → head_then (blank f) bs h w ≡ head_then f bs h w
-head-blank f bs Bad w = refl
-head-blank f bs (Holds n) w = refl
+head-blank : (f : Field) (bs : List ℕ) (h : Option ℕ) (w : Walked) → head_then (blank f) bs h w ≡ head_then f bs h w
+head-blank f bs None w = refl
+head-blank f bs (Some n) w = refl
 
 pub walk-blank : (fs : List Field) (bs : List ℕ) → walk (map blank fs) bs ≡ walk fs bs
 unfolding walk
@@ -165,7 +164,7 @@ pub record Undone (fs : List Field) (bs ns l : List ℕ) : Type 0 where
   pub words : Below (2 ^ 64) l
 
 -- a field at the front that was read is written as the front, before what was found behind it
-module _ (f : Field) (fs : List Field) (bs ns k : List ℕ) (n : ℕ) (below : Below 256 bs) (head : head_of f.tag bs ≡ Holds n)
+module _ (f : Field) (fs : List Field) (bs ns k : List ℕ) (n : ℕ) (below : Below 256 bs) (head : head_of f.tag bs ≡ Some n)
     (behind : Undone fs (drop (3 + claimed bs) bs) ns k) where
   value : List ℕ
   value = take n (drop 3 bs)
@@ -226,7 +225,7 @@ walk_undone (f ∷ fs) bs below narrow one =
     only : is_list f ≡ true → any is_list fs ≡ false
     only e = not-true (any is_list fs) (rw e at (and_right (single fs) alone one))
 
-    choose : (n : ℕ) → head_of f.tag bs ≡ Holds n → (b : Bool) → is_list f ≡ b → (c : Bool) → eqb (n % 8) 0 ≡ c → (d : Bool) → eqb n f.width ≡ d
+    choose : (n : ℕ) → head_of f.tag bs ≡ Some n → (b : Bool) → is_list f ≡ b → (c : Bool) → eqb (n % 8) 0 ≡ c → (d : Bool) → eqb n f.width ≡ d
         → (w : Walked) → UndoneBy fs rest w
         → UndoneBy (f ∷ fs) bs (cond b (cond c (list_then (words_of (n / 8) (drop 3 bs)) w) Broken) (cond d (number_then (kept64 (value_of (take n (drop 3 bs)))) w) Broken))
     choose n head true e true g d q Broken behind = tt
@@ -236,6 +235,6 @@ walk_undone (f ∷ fs) bs below narrow one =
     choose n head false e c g true q (Found v k) behind = number-back f fs bs v k n below head behind e (eqb-true n f.width q) (and_left (is_narrow f) (all is_narrow fs) narrow)
     choose n head false e c g false q w behind = tt
 
-    read : (t : Head) → head_of f.tag bs ≡ t → (w : Walked) → UndoneBy fs rest w → UndoneBy (f ∷ fs) bs (head_then f bs t w)
-    read Bad head w behind = tt
-    read (Holds n) head w behind = choose n head (is_list f) refl (eqb (n % 8) 0) refl (eqb n f.width) refl w behind
+    read : (t : Option ℕ) → head_of f.tag bs ≡ t → (w : Walked) → UndoneBy fs rest w → UndoneBy (f ∷ fs) bs (head_then f bs t w)
+    read None head w behind = tt
+    read (Some n) head w behind = choose n head (is_list f) refl (eqb (n % 8) 0) refl (eqb n f.width) refl w behind

@@ -1,19 +1,17 @@
 -- Step records (document 01, "Records and names"): the table of the ten kinds, the bytes of a step, and the step of bytes.
 -- Assumes nothing.
-use Rattle.std.specs.Prelude.{cond, ◌&&◌, List, [], ◌∷◌, ℕ, ◌+◌, ◌-◌, ◌*◌, ◌%◌, leb, eqb, length, drop, get_or, replicate}
+use Rattle.std.specs.Prelude.{Option, Some, None, cond, ◌&&◌, List, [], ◌∷◌, ℕ, ◌+◌, ◌-◌, ◌*◌, ◌%◌, leb, eqb, length, drop, get_or, replicate}
+use Rattle.std.specs.Option.{option_map}
 use Rattle.fields.specs.Fields.{claimed}
 use Rattle.rules.specs.declared.Role.{Role}
 use Rattle.rules.specs.declared.Role.TheVariants.{Writer, Compactor}
 use Rattle.rules.specs.declared.Kind.{Kind}
 use Rattle.rules.specs.declared.Kind.TheVariants.{Fence as FENCE, Put as PUT, Commit as COMMIT, Compact as COMPACT, Hold as HOLD, Renew as RENEW, Release as RELEASE, List as LIST, Look as LOOK, Collect as COLLECT}
+use Rattle.rules.specs.declared.Step.{Step}
 use Rattle.rules.specs.Limits.{limits}
 use Rattle.rules.specs.Request.{Request, Asked, Unreadable}
 use Rattle.rules.specs.Typed.{can_say, name_list}
 use Rattle.records.specs.declared.Field.{Field}
-use Rattle.records.specs.declared.KindRead.{KindRead}
-use Rattle.records.specs.declared.KindRead.TheVariants.{Known, Unknown}
-use Rattle.records.specs.declared.Reading.TheVariants.{Read, Malformed}
-use Rattle.records.specs.declared.StepRead.{StepRead}
 use Rattle.records.specs.Format.{time, role, epoch, slot, object, currency, list, hold, manifest, expiry, record_of, most_fields}
 use Rattle.records.specs.Walk.{Walked, Found, Broken, walk}
 
@@ -53,39 +51,43 @@ longest_step = 3 + 3 * (3 + 8) + (3 + 8 * limits.names)
 
 -- The reader
 
-abbrev pub with_role : ℕ → (Role → Kind) → KindRead
-with_role n k = cond (eqb n 0) (Known (k Writer)) (cond (eqb n 1) (Known (k Compactor)) Unknown)
+-- the role that a number says: "0 writer, 1 compactor"
+abbrev pub role_of : ℕ → Option Role
+role_of n = cond (eqb n 0) (Some Writer) (cond (eqb n 1) (Some Compactor) None)
+
+abbrev pub with_role : ℕ → (Role → Kind) → Option Kind
+with_role n k = option_map k (role_of n)
 
 -- the kind of an outer tag with the numbers of its fields, the time's first
-unfoldable pub kind_from : ℕ → List ℕ → KindRead
+unfoldable pub kind_from : ℕ → List ℕ → Option Kind
 kind_from tag v =
     cond (eqb tag 0x10) (with_role (get_or v 1 0) (λ r. FENCE r (get_or v 2 0)))
     (cond (eqb tag 0x11) (with_role (get_or v 1 0) (λ r. PUT r (get_or v 2 0) (get_or v 3 0) (get_or v 4 0 % 65536)))
-    (cond (eqb tag 0x12) (Known (COMMIT (get_or v 1 0) (get_or v 2 0)))
-    (cond (eqb tag 0x13) (Known (COMPACT (get_or v 1 0) (get_or v 2 0) (get_or v 3 0)))
-    (cond (eqb tag 0x14) (Known (HOLD (get_or v 1 0) (get_or v 2 0) (get_or v 3 0)))
-    (cond (eqb tag 0x15) (Known (RENEW (get_or v 1 0) (get_or v 2 0)))
-    (cond (eqb tag 0x16) (Known (RELEASE (get_or v 1 0)))
-    (cond (eqb tag 0x17) (Known (LIST (get_or v 1 0)))
-    (cond (eqb tag 0x18) (Known (LOOK (get_or v 1 0 % 65536) (get_or v 2 0)))
-    (cond (eqb tag 0x19) (Known COLLECT) Unknown)))))))))
+    (cond (eqb tag 0x12) (Some (COMMIT (get_or v 1 0) (get_or v 2 0)))
+    (cond (eqb tag 0x13) (Some (COMPACT (get_or v 1 0) (get_or v 2 0) (get_or v 3 0)))
+    (cond (eqb tag 0x14) (Some (HOLD (get_or v 1 0) (get_or v 2 0) (get_or v 3 0)))
+    (cond (eqb tag 0x15) (Some (RENEW (get_or v 1 0) (get_or v 2 0)))
+    (cond (eqb tag 0x16) (Some (RELEASE (get_or v 1 0)))
+    (cond (eqb tag 0x17) (Some (LIST (get_or v 1 0)))
+    (cond (eqb tag 0x18) (Some (LOOK (get_or v 1 0 % 65536) (get_or v 2 0)))
+    (cond (eqb tag 0x19) (Some COLLECT) None)))))))))
 
 -- well formed, or no step
 abbrev pub formed : Request → Request
 formed q = cond (can_say q) q Unreadable
 
-abbrev pub request_from : List ℕ → List ℕ → KindRead → Request
-request_from v l Unknown = Unreadable
-request_from v l (Known k) = formed (Asked (get_or v 0 0) k l)
+abbrev pub request_from : List ℕ → List ℕ → Option Kind → Request
+request_from v l None = Unreadable
+request_from v l (Some k) = formed (Asked (get_or v 0 0) k l)
 
 abbrev pub request_of_walk : ℕ → Walked → Request
 request_of_walk tag Broken = Unreadable
 request_of_walk tag (Found v l) = request_from v l (kind_from tag v)
 
 -- the fields that a record of this outer tag has are those of the kind with every number 0
-abbrev pub request_of_tag : ℕ → List ℕ → KindRead → Request
-request_of_tag tag value Unknown = Unreadable
-request_of_tag tag value (Known k) = request_of_walk tag (walk (fields_of 0 k) value)
+abbrev pub request_of_tag : ℕ → List ℕ → Option Kind → Request
+request_of_tag tag value None = Unreadable
+request_of_tag tag value (Some k) = request_of_walk tag (walk (fields_of 0 k) value)
 
 -- the request that bytes are: one field of a known outer tag and nothing behind it
 unfoldable pub decode_step : List ℕ → Request
@@ -94,7 +96,7 @@ decode_step bs =
     (request_of_tag (get_or bs 0 0) (drop 3 bs) (kind_from (get_or bs 0 0) (replicate most_fields 0)))
     Unreadable
 
--- a step in its places; beside a refusal stands the COLLECT of time 0
-abbrev pub step_read : Request → StepRead
-step_read Unreadable = record { reading = Malformed; step = record { time = 0; kind = COLLECT; list = name_list [] } }
-step_read (Asked t k l) = record { reading = Read; step = record { time = t; kind = k; list = name_list l } }
+-- a step in its places; None is the paper's number 2
+abbrev pub step_read : Request → Option Step
+step_read Unreadable = None
+step_read (Asked t k l) = Some (record { time = t; kind = k; list = name_list l })

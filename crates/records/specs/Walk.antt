@@ -1,8 +1,6 @@
 -- What a reader finds in the value of a record that should have these inner fields: a number for each and the list, or that it hasn't just these fields.
 -- Assumes nothing.
-use Rattle.std.specs.Prelude.{cond, List, [], ◌∷◌, ℕ, ◌+◌, ◌/◌, ◌%◌, eqb, take, drop}
-use Rattle.fields.specs.declared.Head.{Head}
-use Rattle.fields.specs.declared.Head.TheVariants.{Holds, Bad}
+use Rattle.std.specs.Prelude.{Option, Some, None, cond, List, [], ◌∷◌, ℕ, ◌+◌, ◌/◌, ◌%◌, eqb, take, drop}
 use Rattle.fields.specs.Bytes.{value_of, kept64, words_of}
 use Rattle.fields.specs.Fields.{head_of, claimed}
 use Rattle.records.specs.declared.Field.{Field}
@@ -27,9 +25,9 @@ field_then f bs n rest =
     (cond (eqb (n % 8) 0) (list_then (words_of (n / 8) (drop 3 bs)) rest) Broken)
     (cond (eqb n f.width) (number_then (kept64 (value_of (take n (drop 3 bs)))) rest) Broken)
 
-abbrev pub head_then : Field → List ℕ → Head → Walked → Walked
-head_then f bs Bad rest = Broken
-head_then f bs (Holds n) rest = field_then f bs n rest
+abbrev pub head_then : Field → List ℕ → Option ℕ → Walked → Walked
+head_then f bs None rest = Broken
+head_then f bs (Some n) rest = field_then f bs n rest
 
 -- "each once, in rising tag order", with their exact lengths and nothing more
 unfoldable pub walk : List Field → List ℕ → Walked

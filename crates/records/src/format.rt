@@ -1,141 +1,70 @@
-// The inner fields, a function for each tag, and a record's fields in their places.
-ghost use Rattle.std.specs.Prelude.{◌≡◌, [], ◌∷◌};
-ghost use Rattle.records.specs.Format.{inner as innerField, code as codeField, time as timeField, role as roleField, epoch as epochField, slot as slotField, object as objectField, currency as currencyField, list as listField, hold as holdField, manifest as manifestField, expiry as expiryField, in_places};
+// The inner fields of records: the table of their tags, and a record's fields in their places.
+ghost use Rattle.std.specs.Prelude.{◌≡◌, ◌≤◌};
+ghost use Rattle.records.specs.Format.{inner, role_code, in_places};
 
-use crate::{Field, Fields};
+use crate::{FIELDS, Field, Fields};
 use rules::Role;
 
-fn inner(tag: u8, width: usize, number: u64) -> Field
-    ensures { result ≡ innerField tag width number }
-{
-    Field { tag, width, number }
-}
+// Which inner field: its tag, and how many bytes its number has; none for the list, which stands beside the fields.
+#[derive(Clone, Copy, PartialEq, Eq)]
+pub struct Tag(pub u8, pub usize);
 
-pub fn code(n: u8) -> Field
-    ensures { result ≡ codeField n }
-{
-    inner(0x00, 1, n as u64)
-}
+pub const CODE: Tag = Tag(0x00, 1);
 
-pub fn time(t: u64) -> Field
-    ensures { result ≡ timeField t }
-{
-    inner(0x01, 8, t)
-}
+pub const TIME: Tag = Tag(0x01, 8);
 
-pub fn role(who: Role) -> Field
-    ensures { result ≡ roleField who }
-{
-    match who {
-        Role::Writer => inner(0x02, 1, 0),
-        Role::Compactor => inner(0x02, 1, 1),
+pub const ROLE: Tag = Tag(0x02, 1);
+
+pub const EPOCH: Tag = Tag(0x03, 8);
+
+pub const SLOT: Tag = Tag(0x04, 8);
+
+pub const OBJECT: Tag = Tag(0x05, 8);
+
+pub const CURRENCY: Tag = Tag(0x06, 2);
+
+pub const LIST: Tag = Tag(0x07, 0);
+
+pub const HOLD: Tag = Tag(0x08, 8);
+
+pub const MANIFEST: Tag = Tag(0x09, 8);
+
+pub const EXPIRY: Tag = Tag(0x0A, 8);
+
+impl Tag {
+    // The field of this tag that says the number.
+    pub fn of(self, number: u64) -> Field
+        ensures { result ≡ inner self.0 self.1 number }
+    {
+        Field {
+            tag: self.0,
+            width: self.1,
+            number,
+        }
     }
 }
 
-pub fn epoch(e: u64) -> Field
-    ensures { result ≡ epochField e }
+// The number that a record says a role by.
+pub fn role_number(who: Role) -> u64
+    ensures { result ≡ role_code who }
 {
-    inner(0x03, 8, e)
+    match who {
+        Role::Writer => 0,
+        Role::Compactor => 1,
+    }
 }
 
-pub fn slot(n: u64) -> Field
-    ensures { result ≡ slotField n }
+// A record of these fields.
+pub fn fields_of<const N: usize>(first: [Field; N]) -> Fields
+    requires { N ≤ FIELDS }
+    ensures { result ≡ in_places first.entry }
 {
-    inner(0x04, 8, n)
-}
-
-pub fn object(n: u64) -> Field
-    ensures { result ≡ objectField n }
-{
-    inner(0x05, 8, n)
-}
-
-pub fn currency(c: u16) -> Field
-    ensures { result ≡ currencyField c }
-{
-    inner(0x06, 2, c as u64)
-}
-
-pub fn list() -> Field
-    ensures { result ≡ listField }
-{
-    inner(0x07, 0, 0)
-}
-
-pub fn hold(x: u64) -> Field
-    ensures { result ≡ holdField x }
-{
-    inner(0x08, 8, x)
-}
-
-pub fn manifest(m: u64) -> Field
-    ensures { result ≡ manifestField m }
-{
-    inner(0x09, 8, m)
-}
-
-pub fn expiry(e: u64) -> Field
-    ensures { result ≡ expiryField e }
-{
-    inner(0x0A, 8, e)
-}
-
-pub fn one(a: Field) -> Fields
-    ensures { result ≡ in_places (a ∷ []) }
-{
-    let z = Field {
+    let none = Field {
         tag: 0,
         width: 0,
         number: 0,
     };
-    let items = [a, z, z, z, z, z];
-    Fields { count: 1, items }
-}
-
-pub fn two(a: Field, b: Field) -> Fields
-    ensures { result ≡ in_places (a ∷ b ∷ []) }
-{
-    let z = Field {
-        tag: 0,
-        width: 0,
-        number: 0,
-    };
-    let items = [a, b, z, z, z, z];
-    Fields { count: 2, items }
-}
-
-pub fn three(a: Field, b: Field, c: Field) -> Fields
-    ensures { result ≡ in_places (a ∷ b ∷ c ∷ []) }
-{
-    let z = Field {
-        tag: 0,
-        width: 0,
-        number: 0,
-    };
-    let items = [a, b, c, z, z, z];
-    Fields { count: 3, items }
-}
-
-pub fn four(a: Field, b: Field, c: Field, d: Field) -> Fields
-    ensures { result ≡ in_places (a ∷ b ∷ c ∷ d ∷ []) }
-{
-    let z = Field {
-        tag: 0,
-        width: 0,
-        number: 0,
-    };
-    let items = [a, b, c, d, z, z];
-    Fields { count: 4, items }
-}
-
-pub fn five(a: Field, b: Field, c: Field, d: Field, e: Field) -> Fields
-    ensures { result ≡ in_places (a ∷ b ∷ c ∷ d ∷ e ∷ []) }
-{
-    let z = Field {
-        tag: 0,
-        width: 0,
-        number: 0,
-    };
-    let items = [a, b, c, d, e, z];
-    Fields { count: 5, items }
+    let mut items = [none; FIELDS];
+    items[..N].copy_from_slice(&first);
+    Fields { count: N, items }
 }

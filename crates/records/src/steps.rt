@@ -1,20 +1,17 @@
 // Step records.
-ghost use Rattle.std.specs.Prelude.{◌≡◌, ◌+◌, ◌*◌, ◌%◌, ◌≤◌, length};
-ghost use Rattle.rules.specs.declared.Kind.TheVariants.{Fence as FENCE, Put as PUT};
-ghost use Rattle.rules.specs.Request.{Unreadable};
+ghost use Rattle.std.specs.Prelude.{◌≡◌, ◌+◌, ◌*◌, ◌≤◌, length};
 ghost use Rattle.records.specs.Format.{in_places};
 ghost use Rattle.records.specs.Found.{found_by};
-ghost use Rattle.records.specs.Steps.{outer_tag, fields_of, with_role, kind_from, request_of_walk, decode_step, step_read};
+ghost use Rattle.records.specs.Steps.{outer_tag, fields_of, role_of, kind_from, request_of_walk, decode_step, step_read};
 ghost use Rattle.records.specs.Writing.{step_writing};
 
 use crate::format::{
-    currency, epoch, expiry, five, four, hold, list, manifest, object, one, role, slot, three,
-    time, two,
+    CURRENCY, EPOCH, EXPIRY, HOLD, LIST, MANIFEST, OBJECT, ROLE, SLOT, TIME, fields_of, role_number,
 };
 use crate::walking::{is_whole, walk};
 use crate::writing::write_record;
-use crate::{FIELDS, Fields, KindRead, Reading, StepRead, Walk, Write};
-use rules::{Kind, NameList, Role, Step};
+use crate::{FIELDS, Fields, Walk, WriteError};
+use rules::{Kind, NAMES, NameList, Role, Step};
 
 // The table of the ten kinds
 
@@ -38,193 +35,137 @@ fn outer_tag(kind: Kind) -> u8
 fn step_fields(at: u64, kind: Kind) -> Fields
     ensures { result ≡ in_places (fields_of at kind) }
 {
-    let t = time(at);
+    let t = TIME.of(at);
     match kind {
-        Kind::Fence { role: r, slot: n } => three(t, role(r), slot(n)),
+        Kind::Fence { role, slot } => fields_of([t, ROLE.of(role_number(role)), SLOT.of(slot)]),
         Kind::Put {
-            role: r,
-            epoch: e,
-            object: n,
-            currency: c,
-        } => five(t, role(r), epoch(e), object(n), currency(c)),
-        Kind::Commit { epoch: e, slot: n } => four(t, epoch(e), slot(n), list()),
+            role,
+            epoch,
+            object,
+            currency,
+        } => fields_of([
+            t,
+            ROLE.of(role_number(role)),
+            EPOCH.of(epoch),
+            OBJECT.of(object),
+            CURRENCY.of(u64::from(currency)),
+        ]),
+        Kind::Commit { epoch, slot } => fields_of([t, EPOCH.of(epoch), SLOT.of(slot), LIST.of(0)]),
         Kind::Compact {
-            epoch: e,
-            slot: n,
-            object: o,
-        } => four(t, epoch(e), slot(n), object(o)),
+            epoch,
+            slot,
+            object,
+        } => fields_of([t, EPOCH.of(epoch), SLOT.of(slot), OBJECT.of(object)]),
         Kind::Hold {
-            hold: x,
-            manifest: m,
-            expiry: e,
-        } => four(t, hold(x), manifest(m), expiry(e)),
-        Kind::Renew { hold: x, expiry: e } => three(t, hold(x), expiry(e)),
-        Kind::Release { hold: x } => two(t, hold(x)),
-        Kind::List { hold: x } => two(t, hold(x)),
-        Kind::Look {
-            currency: c,
-            hold: x,
-        } => three(t, currency(c), hold(x)),
-        Kind::Collect => one(t),
+            hold,
+            manifest,
+            expiry,
+        } => fields_of([t, HOLD.of(hold), MANIFEST.of(manifest), EXPIRY.of(expiry)]),
+        Kind::Renew { hold, expiry } => fields_of([t, HOLD.of(hold), EXPIRY.of(expiry)]),
+        Kind::Release { hold } | Kind::List { hold } => fields_of([t, HOLD.of(hold)]),
+        Kind::Look { currency, hold } => {
+            fields_of([t, CURRENCY.of(u64::from(currency)), HOLD.of(hold)])
+        }
+        Kind::Collect => fields_of([t]),
     }
 }
 
 // Reading
 
-fn fence_from(who: u64, slot: u64) -> KindRead
-    ensures { result ≡ with_role who (λ w. FENCE w slot) }
+// The role that a number says.
+pub fn role_from(n: u64) -> Option<Role>
+    ensures { result ≡ role_of n }
 {
-    if who == 0 {
-        return KindRead::Known(Kind::Fence {
-            role: Role::Writer,
-            slot,
-        });
+    match n {
+        0 => Some(Role::Writer),
+        1 => Some(Role::Compactor),
+        _ => None,
     }
-    if who == 1 {
-        return KindRead::Known(Kind::Fence {
-            role: Role::Compactor,
-            slot,
-        });
-    }
-    KindRead::Unknown
-}
-
-fn put_from(who: u64, epoch: u64, object: u64, money: u64) -> KindRead
-    ensures { result ≡ with_role who (λ w. PUT w epoch object (money % 65536)) }
-{
-    let currency = (money % 65536) as u16;
-    if who == 0 {
-        return KindRead::Known(Kind::Put {
-            role: Role::Writer,
-            epoch,
-            object,
-            currency,
-        });
-    }
-    if who == 1 {
-        return KindRead::Known(Kind::Put {
-            role: Role::Compactor,
-            epoch,
-            object,
-            currency,
-        });
-    }
-    KindRead::Unknown
 }
 
 // The kind of an outer tag with the numbers of its fields, the time's first.
-fn kind_from(tag: u8, v: [u64; FIELDS]) -> KindRead
+#[tactic(auto, unfolding(crate::specs::Steps::kind_from))]
+fn kind_from(tag: u8, v: [u64; FIELDS]) -> Option<Kind>
     ensures { result ≡ kind_from tag v }
 {
-    let a = v[1];
-    let b = v[2];
-    let c = v[3];
-    let d = v[4];
-    match tag {
-        0x10 => fence_from(a, b),
-        0x11 => put_from(a, b, c, d),
-        0x12 => KindRead::Known(Kind::Commit { epoch: a, slot: b }),
-        0x13 => KindRead::Known(Kind::Compact {
+    let [_, a, b, c, d, _] = v;
+    let kind = match tag {
+        0x10 => Kind::Fence {
+            role: role_from(a)?,
+            slot: b,
+        },
+        0x11 => Kind::Put {
+            role: role_from(a)?,
+            epoch: b,
+            object: c,
+            currency: (d % 65536) as u16,
+        },
+        0x12 => Kind::Commit { epoch: a, slot: b },
+        0x13 => Kind::Compact {
             epoch: a,
             slot: b,
             object: c,
-        }),
-        0x14 => KindRead::Known(Kind::Hold {
+        },
+        0x14 => Kind::Hold {
             hold: a,
             manifest: b,
             expiry: c,
-        }),
-        0x15 => KindRead::Known(Kind::Renew { hold: a, expiry: b }),
-        0x16 => KindRead::Known(Kind::Release { hold: a }),
-        0x17 => KindRead::Known(Kind::List { hold: a }),
-        0x18 => KindRead::Known(Kind::Look {
+        },
+        0x15 => Kind::Renew { hold: a, expiry: b },
+        0x16 => Kind::Release { hold: a },
+        0x17 => Kind::List { hold: a },
+        0x18 => Kind::Look {
             currency: (a % 65536) as u16,
             hold: b,
-        }),
-        0x19 => KindRead::Known(Kind::Collect),
-        _ => KindRead::Unknown,
-    }
-}
-
-fn malformed() -> StepRead
-    ensures { result ≡ step_read Unreadable }
-{
-    let names = [0u64; rules::NAMES];
-    let list = NameList { count: 0, names };
-    let step = Step {
-        time: 0,
-        kind: Kind::Collect,
-        list,
+        },
+        0x19 => Kind::Collect,
+        _ => return None,
     };
-    StepRead {
-        reading: Reading::Malformed,
-        step,
-    }
+    Some(kind)
 }
 
 // The step of a walk over a record's value.
-fn step_of(tag: u8, value: &[u8], w: Walk) -> StepRead
-    requires { w.list + 8 * w.count ≤ length value.now }
-    ensures { result ≡ step_read (request_of_walk tag (found_by w value.now)) }
+fn step_of(tag: u8, value: &[u8], w: Walk) -> Option<Step>
+    requires { w.list.at + 8 * w.list.count ≤ length value.now }
+    ensures { result ≡ step_read (request_of_walk tag (found_by (Some w) value.now)) }
 {
-    let count = w.count;
-    if !w.whole {
-        return malformed();
+    let count = w.list.count;
+    if NAMES < count {
+        return None;
     }
-    if rules::NAMES < count {
-        return malformed();
-    }
-    let numbers = w.numbers;
-    let time = numbers[0];
-    let read = kind_from(tag, numbers);
-    let KindRead::Known(kind) = read else {
-        return malformed();
+    let kind = kind_from(tag, w.numbers)?;
+    let mut names = [0; NAMES];
+    fields::read_words(&value[w.list.at..], &mut names[..count]);
+    let step = Step {
+        time: w.numbers[0],
+        kind,
+        list: NameList { count, names },
     };
-    let mut names = [0u64; rules::NAMES];
-    let at = w.list;
-    fields::read_words(&value[at..], &mut names[..count]);
-    let list = NameList { count, names };
-    let step = Step { time, kind, list };
-    if !rules::is_well_formed(step) {
-        return malformed();
-    }
-    StepRead {
-        reading: Reading::Read,
-        step,
-    }
+    rules::is_well_formed(step).then_some(step)
 }
 
-// Takes all the bytes lent as one record.
-pub fn read_step(bytes: &[u8]) -> StepRead
+// Takes all the bytes lent as one record. None is the paper's number 2.
+pub fn read_step(bytes: &[u8]) -> Option<Step>
     ensures { result ≡ step_read (decode_step bytes.now) }
 {
     if !is_whole(bytes) {
-        return malformed();
+        return None;
     }
     let tag = bytes[0];
-    let zeros = [0u64; FIELDS];
-    let blank = kind_from(tag, zeros);
-    let KindRead::Known(kind) = blank else {
-        return malformed();
-    };
-    let fields = step_fields(0, kind);
+    let blank = kind_from(tag, [0; FIELDS])?;
     let value = &bytes[3..];
-    let w = walk(value, fields);
+    let w = walk(value, step_fields(0, blank))?;
     step_of(tag, value, w)
 }
 
 // Writes a step's record at the start of `out`; the bytes beyond it stay. Where it refuses nothing is written.
-pub fn write_step(step: Step, out: &mut [u8]) -> Write
+pub fn write_step(step: Step, out: &mut [u8]) -> Result<usize, WriteError>
     ensures { step_writing step out.old ≡ record { answer = result; buffer = out.new } }
 {
     if !rules::is_well_formed(step) {
-        return Write::Malformed;
+        return Err(WriteError::Malformed);
     }
-    let kind = step.kind;
-    let list = step.list;
-    let count = list.count;
-    let names = list.names;
-    let tag = outer_tag(kind);
-    let fields = step_fields(step.time, kind);
-    write_record(tag, fields, &names[..count], out)
+    let fields = step_fields(step.time, step.kind);
+    let names = &step.list.names[..step.list.count];
+    write_record(outer_tag(step.kind), fields, names, out)
 }

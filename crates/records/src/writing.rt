@@ -3,19 +3,20 @@ ghost use Rattle.std.specs.Prelude.{◌≡◌, true, ◌≤◌, ◌<◌, length}
 ghost use Rattle.fields.specs.Fields.{field};
 ghost use Rattle.rules.specs.Limits.{limits};
 ghost use Rattle.records.specs.Format.{content, bytes_of, record_of};
-ghost use Rattle.records.specs.Found.{fields_in, is_narrow, Placed};
+ghost use Rattle.records.specs.Found.{fields_in, Placed};
 ghost use Rattle.records.specs.Writing.{writing};
 
-use crate::{Field, Fields, Write};
+use crate::{Field, Fields, WriteError};
 
 // The length of a field's value.
 fn content_size(f: Field, list: &[u64]) -> usize
     ensures { result ≡ length (content list.now f) }
 {
     if f.width == 0 {
-        return 8 * list.len();
+        8 * list.len()
+    } else {
+        f.width
     }
-    f.width
 }
 
 // The length of all the fields.
@@ -23,14 +24,9 @@ fn size_of(fields: Fields, list: &[u64]) -> usize
     requires { Placed fields × (length list.now ≤ limits.places) }
     ensures { (result ≡ length (bytes_of (fields_in fields) list.now)) × (result < 65536) }
 {
-    let n = fields.count;
     let mut size = 0;
-    let mut i = 0;
-    while i < n {
-        let f = fields.items[i];
-        let k = content_size(f, list);
-        size = size + 3 + k;
-        i += 1;
+    for f in &fields.items[..fields.count] {
+        size += 3 + content_size(*f, list);
     }
     size
 }
@@ -43,9 +39,9 @@ fn put_field(f: Field, list: &[u64], out: &mut [u8])
     fields::put_head(f.tag, out.len() - 3, out);
     if f.width == 0 {
         fields::put_words(list, &mut out[3..]);
-        return;
+    } else {
+        fields::put_number(f.number, &mut out[3..]);
     }
-    fields::put_number(f.number, &mut out[3..]);
 }
 
 // Fills the slice with the fields, one behind the other.
@@ -53,30 +49,30 @@ fn put_fields(fields: Fields, list: &[u64], out: &mut [u8])
     requires { Placed fields × (length (bytes_of (fields_in fields) list.now) ≡ length out.old) }
     ensures { out.new ≡ bytes_of (fields_in fields) list.now }
 {
-    let n = fields.count;
     let mut at = 0;
-    let mut i = 0;
-    while i < n {
-        let f = fields.items[i];
-        let k = content_size(f, list);
-        let e = at + 3 + k;
-        put_field(f, list, &mut out[at..e]);
-        at = e;
-        i += 1;
+    for f in &fields.items[..fields.count] {
+        let end = at + 3 + content_size(*f, list);
+        put_field(*f, list, &mut out[at..end]);
+        at = end;
     }
 }
 
 // Writes a record at the start of `out`, where there is room.
-pub fn write_record(tag: u8, fields: Fields, list: &[u64], out: &mut [u8]) -> Write
+pub fn write_record(
+    tag: u8,
+    fields: Fields,
+    list: &[u64],
+    out: &mut [u8],
+) -> Result<usize, WriteError>
     requires { Placed fields × (length list.now ≤ limits.places) }
     ensures { writing true (record_of tag (fields_in fields) list.now) out.old ≡ record { answer = result; buffer = out.new } }
 {
     let size = size_of(fields, list);
     let end = 3 + size;
     if out.len() < end {
-        return Write::Full;
+        return Err(WriteError::Full);
     }
     fields::put_head(tag, size, out);
     put_fields(fields, list, &mut out[3..end]);
-    Write::Written(end)
+    Ok(end)
 }

@@ -1,122 +1,95 @@
 -- `image::loading::read_rows` meets its contract: each group of rows begins where the one before it ends. Assumes nothing.
-use mathlib.Core.Path.{◌≡◌, ap, ◌∙◌}
-use mathlib.Core.List.{List}
-use Prim.Native.Nat.{ℕ, ◌+◌, ◌≤◌}
-use native.Mathlib.Omega.{arith}
-use lib.Dec.{eqb}
-use lib.ListN.{length, drop, length-drop}
-use Rattle.records.proofs.Places.{tail}
-use Rattle.rules.specs.Limits.{limits, manifest_limit}
-use Rattle.rules.proofs.Lists.{conj-true}
-use Rattle.image.specs.declared.ObjectsRead.{ObjectsRead}
-use Rattle.image.specs.declared.ManifestsRead.{ManifestsRead}
-use Rattle.image.specs.declared.HoldsRead.{HoldsRead}
-use Rattle.image.specs.Rows.{row_at}
-use Rattle.image.specs.Format.{clock_row, collected_row, manifest_row, hold_row}
-use Rattle.image.specs.Reading.{place_at, manifest_at, hold_at, places_of, kept_of, holds_of, clock_at, collected_at, rows_begin, kept_begin, holds_begin, ledger_in}
-use Rattle.image.specs.Code.{line, objects_read, manifests_read, holds_read}
-use Rattle.image.proofs.RowLaws.{row_room}
-use Rattle.image.proofs.Walks.{rows-room}
-use Rattle.image.proofs.Spots.{spot_room}
-use Rattle.image.proofs.Things.{line-number}
-use Rattle.image.proofs.Heads.{edition-room, clock-room, head-room}
-use Rattle.image.proofs.loading.read_rows.Goals.{After-read_holds-held, After-read_manifests-kept, After-read_objects-places, Start}
+use Rattle.std.specs.Prelude.{unwrap_or}
+use Rattle.std.proofs.Common.{◌≡◌, ℕ, ◌+◌, Some, None, drop, sym, ap, ◌∙◌}
+use borrow.Author.Tests.{ne_eqb}
+use Rattle.rules.specs.Lists.{conj}
+use Rattle.image.proofs.Laying.{tail}
+use Rattle.ledger.specs.declared.Ledger.{Ledger}
+use Rattle.image.specs.Format.{edition_row, clock_row, collected_row, edition}
+use Rattle.image.specs.Reading.{number_at, places_of, kept_of, holds_of, clock_at, collected_at, rows_begin, kept_begin, holds_begin, rows_end, ledger_in}
+use Rattle.image.specs.Code.{found_objects, found_manifests, found_holds}
+use Rattle.image.proofs.Heads.{headed_by, rows_unheaded, rows_left, rows_all-read}
+use Rattle.image.proofs.loading.read_rows.Goals.{Else-branch-ne-FIRST_EDITION, In_ok-clock, After-read_holds-holds}
 use Rattle.image.proofs.loading.read_rows.Goals as goal
 
--- the room that the head shows, and that each group of rows leaves
-clocks : (c : Start) → clock_at ≤ length c.args.s.now
-clocks c = let f = conj-true _ c.requires in edition-room c.args.s.now f.0
+-- the numbers that were read
+edition_read : (c : Else-branch-ne-FIRST_EDITION) → number_at edition_row c.args.s.now ≡ Some edition
+edition_read c = sym c.in_ok-number.ensures.is ∙ ap (λ (n : ℕ). Some n) c.if-branch-ne-FIRST_EDITION.false
 
-collecteds : (c : Start) → collected_at ≤ length c.args.s.now
-collecteds c = let f = conj-true _ c.requires in clock-room c.args.s.now f.0 f.1.1.0
+clock_read : (c : In_ok-clock) → number_at clock_row (drop clock_at c.args.s.now) ≡ Some c.in_ok-clock.clock
+clock_read c = ap (number_at clock_row) (sym (tail clock_at c.args.s.now)) ∙ sym c.in_ok-clock.ensures.is
 
-begins : (c : Start) → rows_begin ≤ length c.args.s.now
-begins c = let f = conj-true _ c.requires in head-room c.args.s.now f.0 f.1.1.0 f.1.1.1.0
+-- the rows that were read, each group behind the one before it
+places : (c : After-read_holds-holds) → c.read_objects-objects.result ≡ found_objects (places_of (drop rows_begin c.args.s.now))
+places c = c.read_objects-objects.ensures.is ∙ ap (λ bs. found_objects (places_of bs)) (tail rows_begin c.args.s.now)
 
-keeps : (s : List ℕ) → rows_begin ≤ length s → kept_begin s ≤ length s
-keeps s h = omega (arith, h, rows-room place_at spot_room limits.places 0 (drop rows_begin s), length-drop rows_begin s)
+kept_at : (c : After-read_holds-holds) → rows_begin + c.read_objects-objects.result.size ≡ kept_begin c.args.s.now
+kept_at c = ap (λ r. rows_begin + r.size) (places c)
 
-holds_begin_lem : (s : List ℕ) → rows_begin ≤ length s → holds_begin s ≤ length s
-holds_begin_lem s h = omega (arith, keeps s h, rows-room manifest_at (λ p bs. row_room manifest_row bs) (manifest_limit limits) 0 (drop (kept_begin s) s), length-drop (kept_begin s) s)
-
-holds_end : (s : List ℕ) → rows_begin ≤ length s → holds_begin s + (holds_of (drop (holds_begin s) s)).size ≤ length s
-holds_end s h = omega (arith, holds_begin_lem s h, rows-room hold_at (λ p bs. row_room hold_row bs) limits.holds 0 (drop (holds_begin s) s), length-drop (holds_begin s) s)
-
--- what was read, by the definition
-places : (c : After-read_objects-places) → c.read_objects-places.result ≡ objects_read (places_of (drop rows_begin c.args.s.now))
-places c = c.read_objects-places.ensures ∙ ap (λ l. objects_read (places_of l)) (tail rows_begin c.args.s.now)
-
-kept_at : (c : After-read_objects-places) → rows_begin + c.read_objects-places.result.size ≡ kept_begin c.args.s.now
-kept_at c = ap (λ (r : ObjectsRead). rows_begin + r.size) (places c)
-
-kept : (c : After-read_manifests-kept) → c.read_manifests-kept.result ≡ manifests_read (kept_of (drop (kept_begin c.args.s.now) c.args.s.now))
+kept : (c : After-read_holds-holds) → c.read_manifests-manifests.result ≡ found_manifests (kept_of (drop (kept_begin c.args.s.now) c.args.s.now))
 kept c =
-    c.read_manifests-kept.ensures ∙ ap (λ l. manifests_read (kept_of l)) (tail (rows_begin + c.read_objects-places.result.size) c.args.s.now ∙ ap (λ (n : ℕ). drop n c.args.s.now) (kept_at (goal.at.After-read_manifests-kept c).After-read_objects-places))
+    let s = c.args.s.now in
+    c.read_manifests-manifests.ensures.is ∙ ap (λ bs. found_manifests (kept_of bs)) (tail (rows_begin + c.read_objects-objects.result.size) s ∙ ap (λ (n : ℕ). drop n s) (kept_at c))
 
-held_at : (c : After-read_manifests-kept) → rows_begin + c.read_objects-places.result.size + c.read_manifests-kept.result.size ≡ holds_begin c.args.s.now
-held_at c =
-    ap (λ (n : ℕ). n + c.read_manifests-kept.result.size) (kept_at (goal.at.After-read_manifests-kept c).After-read_objects-places) ∙ ap (λ (r : ManifestsRead). kept_begin c.args.s.now + r.size) (kept c)
+held_at : (c : After-read_holds-holds) → rows_begin + c.read_objects-objects.result.size + c.read_manifests-manifests.result.size ≡ holds_begin c.args.s.now
+held_at c = λ i. kept_at c i + (kept c i).size
 
-held : (c : After-read_holds-held) → c.read_holds-held.result ≡ holds_read (holds_of (drop (holds_begin c.args.s.now) c.args.s.now))
+held : (c : After-read_holds-holds) → c.read_holds-holds.result ≡ found_holds (holds_of (drop (holds_begin c.args.s.now) c.args.s.now))
 held c =
-    c.read_holds-held.ensures ∙ ap (λ l. holds_read (holds_of l)) (tail (rows_begin + c.read_objects-places.result.size + c.read_manifests-kept.result.size) c.args.s.now ∙ ap (λ (n : ℕ). drop n c.args.s.now) (held_at (goal.at.After-read_holds-held c).After-read_manifests-kept))
+    let s = c.args.s.now in
+    c.read_holds-holds.ensures.is
+    ∙ ap (λ bs. found_holds (holds_of bs)) (tail (rows_begin + c.read_objects-objects.result.size + c.read_manifests-manifests.result.size) s ∙ ap (λ (n : ℕ). drop n s) (held_at c))
 
-pub slice_bounds-single_at-count : goal.slice_bounds-single_at-count
-slice_bounds-single_at-count c = omega (arith, clocks (goal.at.slice_bounds-single_at-count c).Start)
+ends : (c : After-read_holds-holds) → rows_begin + c.read_objects-objects.result.size + c.read_manifests-manifests.result.size + c.read_holds-holds.result.size ≡ rows_end c.args.s.now
+ends c = λ i. held_at c i + (held c i).size
 
-pub slice_bounds-single_at-start : goal.slice_bounds-single_at-start
-slice_bounds-single_at-start c = omega (arith, clocks (goal.at.slice_bounds-single_at-start c).Start)
+pub returns-in_err-number : goal.returns-in_err-number
+unfolding conj
+returns-in_err-number c = c.from_residual.ensures ∙ sym (rows_unheaded c.args.s.now (rw (sym c.in_err-number.ensures.is)))
 
-pub slice_bounds-single_at-count-2 : goal.slice_bounds-single_at-count-2
-slice_bounds-single_at-count-2 c = omega (arith, collecteds (goal.at.slice_bounds-single_at-count-2 c).Start)
+pub returns-then-branch-ne-FIRST_EDITION : goal.returns-then-branch-ne-FIRST_EDITION
+unfolding conj
+returns-then-branch-ne-FIRST_EDITION c =
+    sym (rows_unheaded c.args.s.now (rw (sym c.in_ok-number.ensures.is, ne_eqb c.in_ok-number.field-0 edition c.if-branch-ne-FIRST_EDITION.true)))
 
-pub slice_bounds-single_at-start-2 : goal.slice_bounds-single_at-start-2
-slice_bounds-single_at-start-2 c = omega (arith, collecteds (goal.at.slice_bounds-single_at-start-2 c).Start)
+pub returns-in_err-clock : goal.returns-in_err-clock
+unfolding conj
+returns-in_err-clock c =
+    let e = edition_read (goal.at.returns-in_err-clock c).Else-branch-ne-FIRST_EDITION in
+    let none : number_at clock_row (drop clock_at c.args.s.now) ≡ None = ap (number_at clock_row) (sym (tail clock_at c.args.s.now)) ∙ sym c.in_err-clock.ensures.is in
+    c.from_residual-in_err-clock.ensures ∙ sym (rows_unheaded c.args.s.now (rw (e, none)))
 
-pub slice_bounds-read_objects-count : goal.slice_bounds-read_objects-count
-slice_bounds-read_objects-count c = omega (arith, begins (goal.at.slice_bounds-read_objects-count c).Start)
+pub returns-in_err-collected : goal.returns-in_err-collected
+unfolding conj
+returns-in_err-collected c =
+    let at = goal.at.returns-in_err-collected c in
+    let none : number_at collected_row (drop collected_at c.args.s.now) ≡ None =
+    ap (number_at collected_row) (sym (tail collected_at c.args.s.now)) ∙ sym c.in_err-collected.ensures.is in
+    c.from_residual-in_err-collected.ensures ∙ sym (rows_unheaded c.args.s.now (rw (edition_read at.Else-branch-ne-FIRST_EDITION, clock_read at.In_ok-clock, none)))
 
-pub slice_bounds-read_objects-start : goal.slice_bounds-read_objects-start
-slice_bounds-read_objects-start c = omega (arith, begins (goal.at.slice_bounds-read_objects-start c).Start)
-
-pub overflow_add-kept_at : goal.overflow_add-kept_at
-overflow_add-kept_at c = omega (arith, kept_at (goal.at.overflow_add-kept_at c).After-read_objects-places, keeps c.args.s.now (begins (goal.at.overflow_add-kept_at c).Start), c.well_formed)
-
-pub slice_bounds-read_manifests-count : goal.slice_bounds-read_manifests-count
-slice_bounds-read_manifests-count c = omega (arith, kept_at (goal.at.slice_bounds-read_manifests-count c).After-read_objects-places, keeps c.args.s.now (begins (goal.at.slice_bounds-read_manifests-count c).Start))
-
-pub slice_bounds-read_manifests-start : goal.slice_bounds-read_manifests-start
-slice_bounds-read_manifests-start c = omega (arith, kept_at (goal.at.slice_bounds-read_manifests-start c).After-read_objects-places, keeps c.args.s.now (begins (goal.at.slice_bounds-read_manifests-start c).Start))
-
-pub overflow_add-held_at : goal.overflow_add-held_at
-overflow_add-held_at c = omega (arith, held_at (goal.at.overflow_add-held_at c).After-read_manifests-kept, holds_begin_lem c.args.s.now (begins (goal.at.overflow_add-held_at c).Start), c.well_formed)
-
-pub slice_bounds-read_holds-count : goal.slice_bounds-read_holds-count
-slice_bounds-read_holds-count c = omega (arith, held_at (goal.at.slice_bounds-read_holds-count c).After-read_manifests-kept, holds_begin_lem c.args.s.now (begins (goal.at.slice_bounds-read_holds-count c).Start))
-
-pub slice_bounds-read_holds-start : goal.slice_bounds-read_holds-start
-slice_bounds-read_holds-start c = omega (arith, held_at (goal.at.slice_bounds-read_holds-start c).After-read_manifests-kept, holds_begin_lem c.args.s.now (begins (goal.at.slice_bounds-read_holds-start c).Start))
-
-pub overflow_add-result : goal.overflow_add-result
-overflow_add-result c =
-    let size = ap (λ (r : HoldsRead). r.size) (held (goal.at.overflow_add-result c).After-read_holds-held) in
-    omega (arith, size, held_at (goal.at.overflow_add-result c).After-read_manifests-kept, holds_end c.args.s.now (begins (goal.at.overflow_add-result c).Start), c.well_formed)
+pub returns-then-held_at-holds : goal.returns-then-held_at-holds
+returns-then-held_at-holds c = sym (rows_left c.args.s.now (λ e. c.if-held_at-holds.true (ends (goal.at.returns-then-held_at-holds c).After-read_holds-holds ∙ e)))
 
 pub returns : goal.returns
 unfolding ledger_in
 returns c =
     let s = c.args.s.now in
-    let h = held (goal.at.returns c).After-read_holds-held in
-    let clock = line-number c.single_at-clock_row.result (row_at clock_row (drop clock_at s)) (c.single_at-clock_row.ensures ∙ ap (λ bs. line (row_at clock_row bs)) (tail clock_at s)) in
-    let collected = line-number c.single_at-collected_row.result (row_at collected_row (drop collected_at s)) (c.single_at-collected_row.ensures ∙ ap (λ bs. line (row_at collected_row bs)) (tail collected_at s)) in
-    let end = ap (λ (n : ℕ). n + c.read_holds-held.result.size) (held_at (goal.at.returns c).After-read_manifests-kept) ∙ ap (λ (r : HoldsRead). holds_begin s + r.size) h in
+    let at = goal.at.returns c in
+    let clock = clock_read at.In_ok-clock in
+    let collected : number_at collected_row (drop collected_at s) ≡ Some c.in_ok-collected.collected = ap (number_at collected_row) (sym (tail collected_at s)) ∙ sym c.in_ok-collected.ensures.is in
+    let read = at.After-read_holds-holds in
+    let is : ◌≡◌ {A = Ledger} (record {
+      clock = c.in_ok-clock.clock;
+      collected = c.in_ok-collected.collected;
+      objects = c.read_objects-objects.result.value;
+      manifests = c.read_manifests-manifests.result.value;
+      holds = c.read_holds-holds.result.value;
+    }) (ledger_in s) =
     λ i. record {
-      whole = eqb (end i) (length s);
-      ledger = record {
-        clock = clock i;
-        collected = collected i;
-        objects = (places (goal.at.returns c).After-read_objects-places i).objects;
-        manifests = (kept (goal.at.returns c).After-read_manifests-kept i).manifests;
-        holds = (h i).holds;
-      };
-    }
+      clock = unwrap_or (sym clock i) 0;
+      collected = unwrap_or (sym collected i) 0;
+      objects = (places read i).value;
+      manifests = (kept read i).value;
+      holds = (held read i).value;
+    } in
+    ap (λ (l : Ledger). Some l) is ∙ sym (rows_all-read s (headed_by s (edition_read at.Else-branch-ne-FIRST_EDITION) clock collected) (sym (ends read) ∙ c.if-held_at-holds.false))

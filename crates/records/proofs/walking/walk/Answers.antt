@@ -1,86 +1,83 @@
-use mathlib.Core.Path.{◌≡◌, sym, ap, ◌∙◌}
-use mathlib.Core.Bool.{true}
-use mathlib.Core.List.{◌∷◌}
-use Prim.Native.Nat.{◌+◌, ◌-◌, ◌≤◌}
-use native.Mathlib.Omega.{arith}
-use lib.ListN.{length, get_or, take, drop, length-set, length-drop, drop_of_length-le}
-use borrow.Author.Tests.{not-true, not-false}
+use Rattle.std.proofs.Common.{◌≡◌, ◌∷◌, ◌+◌, ◌≤◌, ◌<◌, List, Some, length, get_or, take, drop, sym, ap, ◌∙◌, arith, length-set, length-drop, length-take}
+use Rattle.std.proofs.lemmas.List.{drop_more, drop_all, take_rest, take_more_set}
 use Rattle.records.specs.declared.Field.{Field}
-use Rattle.records.specs.declared.Held.{Held}
 use Rattle.records.specs.Format.{inner}
 use Rattle.records.specs.Walk.{walk}
 use Rattle.records.specs.Found.{held, placed_all}
-use Rattle.records.proofs.Places.{rest_cons, rest-none, take-set, tail}
 use Rattle.records.proofs.Fronts.{held-room}
-use Rattle.records.proofs.Joined.{joined, joined-field, joined-absent, joined_end, walk-left, walk_none, zeros_next, first-within, first-none}
-use Rattle.records.proofs.walking.walk.Goals.{After-read_field-h, Else-not-h}
+use Rattle.records.proofs.Joined.{joined, joined-field, joined-absent, joined_end, walk-left, walk_none, zeros_next, first-within, placed-within}
+use Rattle.records.proofs.walking.walk.Goals.{After-read_field, In_ok-held}
 use Rattle.records.proofs.walking.walk.Goals as goal
 
--- the field that the walk comes to, and what stands there
-abbrev field : After-read_field-h → Field
-field c = get_or c.args.fields.items c.loop-i.i (inner 0 0 0)
+-- the fields, and the one that the walk comes to
+abbrev items : After-read_field → List Field
+items c = take c.args.fields.count c.args.fields.items
 
-abbrev front : After-read_field-h → Held
-front c = held (field c) (drop c.loop-i.at c.args.bytes.now)
+abbrev field : After-read_field → Field
+field c = get_or (items c) c.loop-i.i (inner 0 0 0)
 
-is_front : (c : After-read_field-h) → c.read_field-h.result ≡ front c
-is_front c = c.read_field-h.ensures ∙ ap (held (field c)) (tail c.loop-i.at c.args.bytes.now)
+is_front : (c : After-read_field) → c.read_field.result ≡ held (field c) (drop c.loop-i.at c.args.bytes.now)
+is_front c = c.read_field.ensures ∙ ap (held (field c)) (take_rest c.args.bytes.now c.loop-i.at)
 
 -- from there on it is this field and those behind it
-comes : (c : After-read_field-h)
-    → joined c.args.bytes.now (take c.loop-i.i c.loop-i.numbers) c.loop-i.list
-    (walk (field c ∷ drop (c.loop-i.i + 1) (take c.args.fields.count c.args.fields.items)) (drop c.loop-i.at c.args.bytes.now))
-    ≡ walk (take c.args.fields.count c.args.fields.items) c.args.bytes.now
-comes c =
-    let a = c.args in
-    rw (rest_cons a.fields.items a.fields.count c.loop-i.i (inner 0 0 0) c.loop-i-test.true (omega arith)) at c.loop-i.invariant.6
+comes : (c : After-read_field)
+    → joined c.args.bytes.now (take c.loop-i.i c.loop-i.numbers) c.loop-i.list (walk (field c ∷ drop (c.loop-i.i + 1) (items c)) (drop c.loop-i.at c.args.bytes.now))
+    ≡ walk (items c) c.args.bytes.now
+comes c = rw (drop_more (items c) c.loop-i.i (inner 0 0 0) c.loop-i-test.true) at c.loop-i.invariant.found
 
 -- past the test it is there
-there : (c : Else-not-h) → (front (goal.at.Else-not-h c).After-read_field-h).whole ≡ true
-there c = sym (ap (λ (h : Held). h.whole) (is_front (goal.at.Else-not-h c).After-read_field-h)) ∙ not-false _ c.if-not-h.false
+there : (c : In_ok-held) → held (field (goal.at.In_ok-held c).After-read_field) (drop c.loop-i.at c.args.bytes.now) ≡ Some c.in_ok-held.held
+there c = sym (is_front (goal.at.In_ok-held c).After-read_field) ∙ c.in_ok-held.was
 
-room : (c : Else-not-h) → c.loop-i.at + 3 + c.read_field-h.result.len ≤ length c.args.bytes.now
+room : (c : In_ok-held) → c.loop-i.at + 3 + c.in_ok-held.held.len ≤ length c.args.bytes.now
 room c =
     let bytes = c.args.bytes.now in
-    omega (arith, held-room (field (goal.at.Else-not-h c).After-read_field-h) (drop c.loop-i.at bytes) (there c), ap (λ (h : Held). h.len) (is_front (goal.at.Else-not-h c).After-read_field-h), length-drop c.loop-i.at bytes)
+    omega (arith, held-room (field (goal.at.In_ok-held c).After-read_field) (drop c.loop-i.at bytes) c.in_ok-held.held (there c), length-drop c.loop-i.at bytes)
 
-pub returns-then-not-h : goal.returns-then-not-h
-returns-then-not-h c =
+pub returns-in_err-held-clause-found : goal.returns-in_err-held-clause-found
+returns-in_err-held-clause-found c =
     let l = c.loop-i in
-    let a = c.args in
-    let no = sym (ap (λ (h : Held). h.whole) (is_front (goal.at.returns-then-not-h c).After-read_field-h)) ∙ not-true _ c.if-not-h.true in
-    rw c.broken.ensures (ap placed_all (sym (joined-absent a.bytes.now (take l.i l.numbers) l.list (field (goal.at.returns-then-not-h c).After-read_field-h) _ l.at no) ∙ comes (goal.at.returns-then-not-h c).After-read_field-h), omega arith)
+    let at = (goal.at.returns-in_err-held-clause-found c).After-read_field in
+    let none = sym (is_front at) ∙ c.in_err-held.was in
+    rw c.from_residual.ensures (ap placed_all (sym (joined-absent c.args.bytes.now (take l.i l.numbers) l.list (field at) _ l.at none) ∙ comes at))
+
+pub overflow_add-value : goal.overflow_add-value
+overflow_add-value c = omega (arith, room c)
 
 pub overflow_add-at : goal.overflow_add-at
-overflow_add-at c = omega (arith, room (goal.at.overflow_add-at c).Else-not-h)
+overflow_add-at c = omega (arith, room (goal.at.overflow_add-at c).In_ok-held)
 
 pub loop-i-preserved : goal.loop-i-preserved
 loop-i-preserved c =
     let l = c.loop-i in
-    let a = c.args in
-    let h = c.read_field-h.result in
-    let fits = room (goal.at.loop-i-preserved c).Else-not-h in (
-      omega arith,
-      fits,
-      length-set l.numbers l.i h.number ∙ l.invariant.2,
-      rw c.first_list-list.ensures (first-within l.list (field (goal.at.loop-i-preserved c).After-read_field-h).width (l.at + 3) h.len (length a.bytes.now) l.invariant.3 fits),
-      rw c.first_list-list.ensures (first-none l.list (field (goal.at.loop-i-preserved c).After-read_field-h).width (l.at + 3) h.len (omega arith) l.invariant.4),
-      zeros_next l.numbers l.i h.number (omega arith) l.invariant.5,
-      rw (take-set l.numbers l.i h.number (omega arith), c.first_list-list.ensures, is_front (goal.at.loop-i-preserved c).After-read_field-h)
-          (sym (joined-field a.bytes.now (take l.i l.numbers) l.list (field (goal.at.loop-i-preserved c).After-read_field-h) _ l.at (there (goal.at.loop-i-preserved c).Else-not-h)) ∙ comes (goal.at.loop-i-preserved c).After-read_field-h),
-    )
+    let bytes = c.args.bytes.now in
+    let h = c.in_ok-held.held in
+    let ok = (goal.at.loop-i-preserved c).In_ok-held in
+    let at = (goal.at.loop-i-preserved c).After-read_field in
+    let in_places : l.i < length l.numbers = omega (arith, length-take {A = Field}) in
+    record {
+      inside = room ok;
+      long = length-set l.numbers l.i h.number ∙ l.invariant.long;
+      zeros = zeros_next l.numbers l.i h.number (omega arith) l.invariant.zeros;
+      place = rw c.first_list-list.ensures (first-within l.list (field at).width (l.at + 3) h.len (length bytes) l.invariant.place (room ok));
+      found = rw (take_more_set l.numbers l.i h.number in_places, c.first_list-list.ensures) (sym (joined-field bytes (take l.i l.numbers) l.list (field at) _ l.at h (there ok)) ∙ comes at);
+    }
 
-pub returns-then-at-bytes : goal.returns-then-at-bytes
-returns-then-at-bytes c =
+pub returns-then-at-bytes-clause-found : goal.returns-then-at-bytes-clause-found
+returns-then-at-bytes-clause-found c =
     let l = c.loop-i in
-    let a = c.args in
-    let left = walk-left (drop l.at a.bytes.now) (omega (arith, length-drop l.at a.bytes.now)) in
-    rw c.broken-then-at-bytes.ensures (ap placed_all (rw (rest-none a.fields.items a.fields.count l.i c.loop-i-test.false, left) at l.invariant.6), omega arith)
+    let bytes = c.args.bytes.now in
+    let items : List Field = take c.args.fields.count c.args.fields.items in
+    let left = walk-left (drop l.at bytes) (omega (arith, length-drop l.at bytes)) in
+    ap placed_all (rw (drop_all l.i items c.loop-i-test.false, left) at l.invariant.found)
 
-pub returns : goal.returns
-returns c =
+pub returns-clause-found : goal.returns-clause-found
+returns-clause-found c =
     let l = c.loop-i in
-    let a = c.args in
-    let none = drop_of_length-le a.bytes.now {i = l.at} c.if-at-bytes.false in
-    let all = rw (rest-none a.fields.items a.fields.count l.i c.loop-i-test.false, none, walk_none) at l.invariant.6 in
-    (joined_end a.bytes.now l.numbers l.list l.i l.invariant.2 (omega arith) l.invariant.5 l.invariant.4 ∙ ap placed_all all, l.invariant.3)
+    let bytes = c.args.bytes.now in
+    let items : List Field = take c.args.fields.count c.args.fields.items in
+    let all = rw (drop_all l.i items c.loop-i-test.false, drop_all l.at bytes c.if-at-bytes.false, walk_none) at l.invariant.found in
+    rw c.unwrap_or-list.ensures (joined_end bytes l.numbers l.list l.i l.invariant.long (omega (arith, length-take {A = Field})) l.invariant.zeros ∙ ap placed_all all)
+
+pub returns-clause-room : goal.returns-clause-room
+returns-clause-room c = rw c.unwrap_or-list.ensures (placed-within c.loop-i.list (length c.args.bytes.now) c.loop-i.invariant.place)

@@ -7,5 +7,5 @@ use Rattle.records.proofs.writing.content_size.Goals as goal
 pub returns-then-f-eq0 : goal.returns-then-f-eq0
 returns-then-f-eq0 c = sym (length-list c.args.list.now c.args.f c.if-f-eq0.true)
 
-pub returns : goal.returns
-returns c = sym (length-number c.args.list.now c.args.f c.if-f-eq0.false)
+pub returns-else-f-eq0 : goal.returns-else-f-eq0
+returns-else-f-eq0 c = sym (length-number c.args.list.now c.args.f c.if-f-eq0.false)

@@ -45,13 +45,13 @@ slice_bounds-put_number-count c = omega (arith, room (goal.at.slice_bounds-put_n
 pub slice_bounds-put_number-start : goal.slice_bounds-put_number-start
 slice_bounds-put_number-start c = omega (arith, room (goal.at.slice_bounds-put_number-start c).Start, c.put_head.auto.out)
 
-pub returns : goal.returns
-returns c =
+pub returns-else-f-eq0 : goal.returns-else-f-eq0
+returns-else-f-eq0 c =
     let a = c.args in
     let is = content-number a.list.now a.f c.if-f-eq0.false in
     let put = c.put_head in
     let o = put.new.out in
     let size : length (take (length o - 3) (drop 3 o)) ≡ a.f.width =
-    simp (length-take, length-drop) (omega (arith, room (goal.at.returns c).Start, put.auto.out, length-number a.list.now a.f c.if-f-eq0.false))
+    simp (length-take, length-drop) (omega (arith, room (goal.at.returns-else-f-eq0 c).Start, put.auto.out, length-number a.list.now a.f c.if-f-eq0.false))
     in
-    rw (is, c.put_number.ensures, size) (filled a.f.tag (be a.f.width a.f.number) a.out.now o (rw is at (room (goal.at.returns c).Start)) put.ensures)
+    rw (is, c.put_number.ensures, size) (filled a.f.tag (be a.f.width a.f.number) a.out.now o (rw is at (room (goal.at.returns-else-f-eq0 c).Start)) put.ensures)

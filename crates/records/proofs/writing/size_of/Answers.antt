@@ -1,35 +1,34 @@
-use Prim.Native.Nat.{◌-◌, ◌*◌, ◌≤◌}
-use native.Mathlib.Omega.{arith}
-use lib.ListN.{get_or}
+use Rattle.std.proofs.Common.{◌*◌, ◌≤◌, get_or, arith}
+use Rattle.std.proofs.lemmas.List.{drop_more, drop_all}
 use Rattle.rules.specs.Limits.{limits}
 use Rattle.records.specs.Format.{inner}
-use Rattle.records.specs.Found.{is_narrow}
-use Rattle.records.proofs.Places.{rest_cons, rest-none, all-at}
+use Rattle.records.specs.Found.{is_narrow, fields_in}
+use Rattle.records.proofs.Places.{all-taken}
 use Rattle.records.proofs.Pieces.{bytes-none, length_cons, content-short}
-use Rattle.records.proofs.writing.size_of.Goals.{After-content_size-k}
+use Rattle.records.proofs.writing.size_of.Goals.{After-content_size}
 use Rattle.records.proofs.writing.size_of.Goals as goal
 
--- the field's value is short
-short : (c : After-content_size-k) → c.content_size-k.result ≤ 8 * limits.places
+-- the field's value is short, and there are few fields
+short : (c : After-content_size) → c.content_size.result ≤ 8 * limits.places
 short c =
     let a = c.args in
-    let narrow = all-at is_narrow a.fields.items c.loop-i.i (inner 0 0 0) c.requires.0.narrow (omega arith) in
-    omega (arith, c.content_size-k.ensures, content-short a.list.now (get_or a.fields.items c.loop-i.i (inner 0 0 0)) narrow c.requires.1)
+    let narrow = all-taken is_narrow a.fields.items a.fields.count c.loop-f.f-index (inner 0 0 0) c.requires.0.narrow c.loop-f-test.true in
+    omega (arith, c.content_size.ensures, content-short a.list.now (get_or (fields_in a.fields) c.loop-f.f-index (inner 0 0 0)) narrow c.requires.1)
 
-pub overflow_add-size-in-loop-i : goal.overflow_add-size-in-loop-i
-overflow_add-size-in-loop-i c = omega (arith, short c)
+pub overflow_add-size : goal.overflow_add-size
+overflow_add-size c = omega (arith, short c)
 
-pub loop-i-preserved : goal.loop-i-preserved
-loop-i-preserved c =
-    let l = c.loop-i in
-    let a = c.args in
-    let cons = rest_cons a.fields.items a.fields.count l.i (inner 0 0 0) c.loop-i-test.true (omega arith) in
-    let sum = rw (cons, length_cons a.list.now) at l.invariant.2 in
-    (omega arith, omega (arith, short c), omega (arith, sum, c.content_size-k.ensures))
+pub overflow_add-size-in-loop-f : goal.overflow_add-size-in-loop-f
+overflow_add-size-in-loop-f c = omega (arith, short c)
+
+pub loop-f-preserved : goal.loop-f-preserved
+loop-f-preserved c =
+    let l = c.loop-f in
+    let sum = rw (drop_more (fields_in c.args.fields) l.f-index (inner 0 0 0) c.loop-f-test.true, length_cons c.args.list.now) at l.invariant.1 in
+    (omega (arith, short c), omega (arith, sum, c.content_size.ensures))
 
 pub returns : goal.returns
 returns c =
-    let l = c.loop-i in
-    let a = c.args in
-    let all = rw (rest-none a.fields.items a.fields.count l.i c.loop-i-test.false, bytes-none a.list.now) at l.invariant.2 in
+    let l = c.loop-f in
+    let all = rw (drop_all l.f-index (fields_in c.args.fields) c.loop-f-test.false, bytes-none c.args.list.now) at l.invariant.1 in
     (omega (arith, all), omega arith)
