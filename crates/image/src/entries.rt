@@ -1,17 +1,16 @@
 // The rows of an image: of one number, of an object, of a manifest, of a hold. This file alone knows their columns.
-ghost use Rattle.std.specs.Prelude.{◌≡◌, ℕ, Bool, true, List, [], ◌∷◌, ◌≤◌, length, drop, IfSome, OnSome, Option};
+ghost use Rattle.std.specs.Prelude.{◌≡◌, ℕ, Bool, true, List, [], ◌≤◌, length, drop, IfSome, OnSome, Option};
 ghost use Rattle.manifests.specs.Manifests.{is_list_laid, manifest_of};
-ghost use Rattle.records.specs.Format.{role_code};
 ghost use Rattle.image.specs.declared.rows.Found.{Found};
 ghost use Rattle.image.specs.Rows.{numbers_of};
-ghost use Rattle.image.specs.Format.{object_row, object_size, object_cells, is_object_at, object_from};
+ghost use Rattle.image.specs.Format.{object_row, object_size, object_cells};
 ghost use Rattle.image.specs.Image.{place_bytes, manifest_bytes, hold_bytes};
-ghost use Rattle.image.specs.Reading.{spot_at, manifest_at, hold_at};
+ghost use Rattle.image.specs.Reading.{object_in, spot_at, manifest_at, hold_at};
 ghost use Rattle.image.specs.Code.{found_manifest};
 
 use crate::rows::{Form, Found};
 use manifests::KeptManifest;
-use rules::{Hold, NAMES, Object, Role};
+use rules::{Hold, NAMES, Object};
 
 // Rows of one number
 
@@ -109,52 +108,34 @@ pub(crate) trait Packed: Entry + Copy {
 
 // Objects
 
-fn role_number(role: Role) -> u64
-    ensures { result ≡ role_code role }
-{
-    role as u64
-}
-
-fn role_from(n: u64) -> Role
-    ensures { result ≡ (object_from (0 ∷ 0 ∷ n ∷ [])).role }
-{
-    if n == 0 {
-        Role::Writer
-    } else {
-        Role::Compactor
-    }
-}
-
 fn object_numbers(place: u64, o: Object) -> [u64; 6]
     ensures { result ≡ (object_cells place o).numbers }
 {
     [
         place,
         o.number,
-        role_number(o.role),
+        records::role_number(o.role),
         o.epoch,
         u64::from(o.currency),
         u64::from(o.named),
     ]
 }
 
-fn object_from(v: [u64; 6]) -> Object
-    ensures { result ≡ object_from v }
+// The object of a row that says this place.
+fn object_in(place: u64, columns: [u64; 6]) -> Option<Object>
+    ensures { result ≡ object_in place (record { numbers = columns; names = [] }) }
 {
-    let [_, number, role, epoch, currency, named] = v;
-    Object {
+    let [at, number, role, epoch, currency, named] = columns;
+    if at != place || 1 < named {
+        return None;
+    }
+    Some(Object {
         number,
-        role: role_from(role),
+        role: records::role_from(role)?,
         epoch,
         currency: (currency % 65536) as u16,
         named: named != 0,
-    }
-}
-
-fn is_object_at(place: u64, v: [u64; 6]) -> bool
-    ensures { result ≡ is_object_at place v }
-{
-    v[0] == place && v[2] <= 1 && v[5] <= 1
+    })
 }
 
 // The numbers of an object's row, read where they stand: most of an image is such rows.
@@ -178,11 +159,7 @@ pub(crate) fn spot_at(s: &[u8], place: u64) -> Option<Object>
     ensures room { OnSome result (object_size ≤ length s.now) }
 {
     OBJECT.head(s)?;
-    let v = object_columns(s);
-    if !is_object_at(place, v) {
-        return None;
-    }
-    Some(object_from(v))
+    object_in(place, object_columns(s))
 }
 
 // A free place has no row.
