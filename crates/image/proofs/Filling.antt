@@ -10,7 +10,8 @@ use lib.ListN.{length, get_or, set, drop, replicate, length-map, length-replicat
 use lib.Seq.{set-get_or, set-append_seam, append_snoc, drop-cons}
 use Rattle.std.specs.Prelude.{Option, None, Some, is_some, unwrap_or}
 use Rattle.rules.specs.declared.Object.{Object}
-use Rattle.rules.specs.Limits.{limits, word_bits, word_count}
+use Rattle.rules.specs.declared.Hold.{Hold}
+use Rattle.rules.specs.Limits.{limits, manifest_limit, word_bits, word_count}
 use Rattle.rules.specs.State.{free, occupied}
 use Rattle.arrays.specs.Arrays.{pad}
 use Rattle.arrays.proofs.Lists.{pad-none, pad-set, pad-full, get_d_pad, length-pad, map-append}
@@ -18,13 +19,18 @@ use Rattle.objects.specs.declared.Objects.{Objects}
 use Rattle.objects.specs.Occupancy.{words_of, with_flag}
 use Rattle.objects.specs.Objects.{lay_places}
 use Rattle.objects.proofs.Words.{occupancy-by_words}
+use Rattle.manifests.specs.declared.KeptManifest.{KeptManifest}
+use Rattle.manifests.specs.declared.Manifests.{Manifests}
+use Rattle.manifests.specs.Manifests.{lay_manifest, no_manifest, lay_manifests}
+use Rattle.holds.specs.declared.Holds.{Holds}
+use Rattle.holds.specs.Holds.{no_hold, lay_holds}
 use Rattle.image.specs.declared.rows.Found.{Found}
 use Rattle.image.specs.Rows.{rows_from}
 use Rattle.image.specs.Format.{object_size}
-use Rattle.image.specs.Reading.{place_at, spot_at, spot_size, places_of}
-use Rattle.image.specs.Code.{Filled, found_objects}
+use Rattle.image.specs.Reading.{objects_of, place_at, spot_at, spot_size, manifest_at, hold_at, places_of, kept_of, holds_of}
+use Rattle.image.specs.Code.{found_manifest, Filled}
 use Rattle.image.proofs.RowLaws.{pad_front}
-use Rattle.image.proofs.Walks.{Going, going_none, going_next, going_end, going_full, rows_all}
+use Rattle.image.proofs.Walks.{Going, going_none, going_next, going_end, going_full, rows_all, rows_from-as}
 
 -- ---- places that were there
 
@@ -133,13 +139,42 @@ module _ (s : List ℕ) where
               ∙ ap (words_of word_bits word_count) (ap (λ (j : ℕ). set (pad limits.places false ts) j true) (sym (few is_some)) ∙ pad-set limits.places false ts true (omega (arith, few is_some, h)) ∙ ap (pad limits.places false) (sym (map-append is_some g.done (Some o ∷ []))));
         }
 
-  pub places-full : {p pos : ℕ} {objects : Objects} → Places p pos objects → limits.places ≤ p → ◌≡◌ {A = Found Objects} (record { value = objects; size = pos }) (found_objects (places_of s))
-  places-full {p} {pos} {objects} g h =
-      let w = going_full place_at limits.places s g.going h in
-      let vs = (places_of s).values in
-      let long : length vs ≡ limits.places = rows_all place_at (λ q bs. refl) limits.places 0 s in
-      let items-all : objects.items ≡ places_said vs =
-      g.items ∙ ap (λ (l : List (Option Object)). pad limits.places free (places_said l)) w.0 ∙ pad-full limits.places free (places_said vs) (length-map vs (λ s. unwrap_or s free) ∙ long) in
-      let words-all : objects.occupancy ≡ words_of word_bits word_count (map is_some vs) =
-      g.words ∙ ap words_said w.0 ∙ ap (words_of word_bits word_count) (pad-full limits.places false (map is_some vs) (length-map vs is_some ∙ long)) in
-      λ i. record { value = record { occupancy = words-all i; items = items-all i }; size = w.1 i }
+  module _ {p pos : ℕ} {objects : Objects} (g : Places p pos objects) (h : limits.places ≤ p) where
+    abbrev vs : List (Option Object)
+    vs = (places_of s).values
+
+    all : (g.done ≡ vs) × (pos ≡ (places_of s).size)
+    all = going_full place_at limits.places s g.going h
+
+    long : length vs ≡ limits.places
+    long = rows_all place_at (λ q bs. refl) limits.places 0 s
+
+    pub places_objects : objects ≡ objects_of vs
+    places_objects =
+        let items-all : objects.items ≡ places_said vs =
+        g.items ∙ ap (λ (l : List (Option Object)). pad limits.places free (places_said l)) all.0 ∙ pad-full limits.places free (places_said vs) (length-map vs (λ s. unwrap_or s free) ∙ long) in
+        let words-all : objects.occupancy ≡ words_of word_bits word_count (map is_some vs) =
+        g.words ∙ ap words_said all.0 ∙ ap (words_of word_bits word_count) (pad-full limits.places false (map is_some vs) (length-map vs is_some ∙ long)) in
+        λ i. record { occupancy = words-all i; items = items-all i }
+
+    pub places_size : pos ≡ (places_of s).size
+    places_size = all.1
+
+-- ---- the places of the manifests and of the holds
+
+pub filled_manifests : (s : List ℕ) {old items : List KeptManifest} {r : Found ℕ} → old ≡ replicate (manifest_limit limits) no_manifest
+    → Filled (rows_from (λ p bs. found_manifest (manifest_at p bs)) (length old) 0 s) old items r
+    → (◌≡◌ {A = Manifests} (record { count = r.value; items = items }) (lay_manifests (kept_of s).values)) × (r.size ≡ (kept_of s).size)
+filled_manifests s {old} {items} {r} e filled =
+    let n = manifest_limit limits in
+    let f = filled-padded (λ p bs. found_manifest (manifest_at p bs)) n no_manifest s e filled in
+    let rows = rows_from-as lay_manifest manifest_at n 0 s in
+    let count : r.value ≡ length (kept_of s).values = f.count ∙ ap (λ rs. length rs.values) rows ∙ length-map (kept_of s).values lay_manifest in
+    let places : items ≡ pad n no_manifest (map lay_manifest (kept_of s).values) = f.array ∙ ap (λ rs. pad n no_manifest rs.values) rows in
+    ((λ i. record { count = count i; items = places i }), f.size ∙ ap (λ rs. rs.size) rows)
+
+pub filled_holds : (s : List ℕ) {old items : List Hold} {r : Found ℕ} → old ≡ replicate limits.holds no_hold → Filled (rows_from hold_at (length old) 0 s) old items r
+    → (◌≡◌ {A = Holds} (record { count = r.value; items = items }) (lay_holds (holds_of s).values)) × (r.size ≡ (holds_of s).size)
+filled_holds s e filled =
+    let f = filled-padded hold_at limits.holds no_hold s e filled in
+    ((λ i. record { count = f.count i; items = f.array i }), f.size)

@@ -26,7 +26,7 @@ use Rattle.records.specs.Format.{role_code}
 use Rattle.image.specs.Format.{object_row, flag, object_cells, is_object_at, object_from, object_size}
 use Rattle.image.specs.Image.{place_bytes}
 use Rattle.image.specs.Reading.{object_in, spot_at, spot_size, place_at}
-use Rattle.image.proofs.RowLaws.{CellsFit, row_sized, row_room, row_there, row_other, row_back, fits-length, no_names}
+use Rattle.image.proofs.RowLaws.{CellsFit, row_sized, row_there, row_other, row_back, fits-length, no_names}
 use Rattle.image.proofs.Walks.{Each}
 use Rattle.image.proofs.Lengths.{length-object}
 use Rattle.image.proofs.Things.{spot_none, spot_row, spot_cases}

@@ -38,15 +38,6 @@ pub record Filled {A : Type 0} (rs : Rows A) (before after : List A) (r : Found 
   pub size : r.size ≡ rs.size
   pub places : after ≡ rs.values ++ drop (length rs.values) before
 
-abbrev pub found_objects : Rows (Option Object) → Found Objects
-found_objects rs = record { value = objects_of rs.values; size = rs.size }
-
-abbrev pub found_manifests : Rows Manifest → Found Manifests
-found_manifests rs = record { value = lay_manifests rs.values; size = rs.size }
-
-abbrev pub found_holds : Rows Hold → Found Holds
-found_holds rs = record { value = lay_holds rs.values; size = rs.size }
-
 -- the ledger of the rows, where the first three are there and nothing stands behind the last
 abbrev pub rows_read : List ℕ → Option Ledger
 rows_read bs = cond (is_headed bs && eqb (rows_end bs) (length bs)) (Some (ledger_in bs)) None

@@ -1,24 +1,26 @@
 // An image read: its rows in their order, and nothing behind them.
-ghost use Rattle.std.specs.Prelude.{◌≡◌, ◌≤◌, length};
+ghost use Rattle.std.specs.Prelude.{◌≡◌, ◌≤◌, length, replicate};
+ghost use Rattle.rules.specs.Limits.{limits};
+ghost use Rattle.rules.specs.State.{free};
+ghost use Rattle.objects.specs.Objects.{lay_places};
 ghost use Rattle.image.specs.Rows.{rows_from};
-ghost use Rattle.image.specs.Reading.{places_of, kept_of, holds_of, read_of};
-ghost use Rattle.image.specs.Code.{Filled, found_objects, found_manifests, found_holds, rows_read};
+ghost use Rattle.image.specs.Reading.{objects_of, places_of, read_of};
+ghost use Rattle.image.specs.Code.{Filled, rows_read};
 
 use crate::entries::{CLOCK, COLLECTED, EDITION, OBJECT_ROW, Packed, spot_at};
 use crate::rows::Found;
 use crate::{CLOCK_AT, COLLECTED_AT, FIRST_EDITION, IMAGE_TAG, LoadError, ROWS_AT};
-use holds::Holds;
 use ledger::Ledger;
-use manifests::Manifests;
 use objects::Objects;
 use rules::PLACES;
 
-// The places, each with the object whose row comes next, or free.
-fn read_objects(s: &[u8]) -> Found<Objects>
-    ensures is { result ≡ found_objects (places_of s.now) }
-    ensures room { result.size ≤ length s.now }
+// Puts the objects whose rows come next into their places, which are all free: how many bytes the rows have.
+fn read_objects(s: &[u8], objects: &mut Objects) -> usize
+    requires { objects.old ≡ lay_places (replicate limits.places free) }
+    ensures objects { objects.new ≡ objects_of (places_of s.now).values }
+    ensures size { result ≡ (places_of s.now).size }
+    ensures room { result ≤ length s.now }
 {
-    let mut objects = Objects::none();
     let mut at = 0;
     for place in 0..PLACES {
         if let Some(object) = spot_at(&s[at..], place as u64) {
@@ -27,10 +29,7 @@ fn read_objects(s: &[u8]) -> Found<Objects>
             at += OBJECT_ROW;
         }
     }
-    Found {
-        value: objects,
-        size: at,
-    }
+    at
 }
 
 // Reads the rows that come next into the places, as many as there are places: how many they are, and their bytes.
@@ -52,32 +51,6 @@ fn read_packed<T: Packed>(s: &[u8], places: &mut [T]) -> Found<usize>
     }
 }
 
-fn read_manifests(s: &[u8]) -> Found<Manifests>
-    ensures is { result ≡ found_manifests (kept_of s.now) }
-    ensures room { result.size ≤ length s.now }
-{
-    let mut manifests = Manifests::first();
-    let rows = read_packed(s, &mut manifests.items);
-    manifests.count = rows.value;
-    Found {
-        value: manifests,
-        size: rows.size,
-    }
-}
-
-fn read_holds(s: &[u8]) -> Found<Holds>
-    ensures is { result ≡ found_holds (holds_of s.now) }
-    ensures room { result.size ≤ length s.now }
-{
-    let mut holds = Holds::none();
-    let rows = read_packed(s, &mut holds.items);
-    holds.count = rows.value;
-    Found {
-        value: holds,
-        size: rows.size,
-    }
-}
-
 // The ledger of the rows, where nothing stands behind them.
 fn read_rows(s: &[u8]) -> Option<Ledger>
     ensures { result ≡ rows_read s.now }
@@ -85,23 +58,19 @@ fn read_rows(s: &[u8]) -> Option<Ledger>
     if EDITION.number(s)? != FIRST_EDITION {
         return None;
     }
-    let clock = CLOCK.number(&s[CLOCK_AT..])?;
-    let collected = COLLECTED.number(&s[COLLECTED_AT..])?;
-    let objects = read_objects(&s[ROWS_AT..]);
-    let kept_at = ROWS_AT + objects.size;
-    let manifests = read_manifests(&s[kept_at..]);
-    let held_at = kept_at + manifests.size;
-    let holds = read_holds(&s[held_at..]);
-    if held_at + holds.size != s.len() {
+    let mut ledger = Ledger::fresh();
+    ledger.clock = CLOCK.number(&s[CLOCK_AT..])?;
+    ledger.collected = COLLECTED.number(&s[COLLECTED_AT..])?;
+    let kept_at = ROWS_AT + read_objects(&s[ROWS_AT..], &mut ledger.objects);
+    let kept = read_packed(&s[kept_at..], &mut ledger.manifests.items);
+    ledger.manifests.count = kept.value;
+    let held_at = kept_at + kept.size;
+    let held = read_packed(&s[held_at..], &mut ledger.holds.items);
+    ledger.holds.count = held.value;
+    if held_at + held.size != s.len() {
         return None;
     }
-    Some(Ledger {
-        clock,
-        collected,
-        objects: objects.value,
-        manifests: manifests.value,
-        holds: holds.value,
-    })
+    Some(ledger)
 }
 
 // Takes all the bytes lent as one image.

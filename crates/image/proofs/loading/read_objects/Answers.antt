@@ -1,11 +1,11 @@
 use Rattle.std.proofs.Common.{sym}
 use Rattle.image.proofs.Laying.{tail}
-use Rattle.image.proofs.Filling.{places-none, places-free, places-taken, places-full}
+use Rattle.image.proofs.Filling.{places-none, places-free, places-taken, places_objects, places_size}
 use Rattle.image.proofs.loading.read_objects.Goals.{in-Some, in_default}
 use Rattle.image.proofs.loading.read_objects.Goals as goal
 
 pub loop-place-init : goal.loop-place-init
-loop-place-init c = places-none c.args.s.now c.none-objects.result c.none-objects.ensures
+loop-place-init c = places-none c.args.s.now c.args.objects.now c.requires
 
 pub loop-place-preserved : goal.loop-place-preserved
 loop-place-preserved c =
@@ -23,5 +23,8 @@ loop-place-preserved c =
           rw (w.at-is, w.objects-is) (places-free s l.invariant c.loop-place-test.true (rw (tail l.at s) at none))
     ]
 
-pub returns-clause-is : goal.returns-clause-is
-returns-clause-is c = places-full c.args.s.now c.loop-place.invariant c.loop-place-test.false
+pub returns-clause-objects : goal.returns-clause-objects
+returns-clause-objects c = places_objects c.args.s.now c.loop-place.invariant c.loop-place-test.false
+
+pub returns-clause-size : goal.returns-clause-size
+returns-clause-size c = places_size c.args.s.now c.loop-place.invariant c.loop-place-test.false
