@@ -1,3 +1,4 @@
 pub mod Lists
 pub mod Scan
 pub mod Sorting
+pub mod Packing

@@ -4,11 +4,12 @@ use mathlib.Core.Path.{◌≡◌, refl, sym, ap, ap₂, ◌∙◌}
 use mathlib.Core.Bool.{Bool, true, false, not, cond, ◌&&◌, ◌||◌, or-true, or_assoc}
 use mathlib.Core.List.{List, [], ◌∷◌, ◌++◌, append-nil, map, head-eq_of_cons-eq, tail-eq_of_cons-eq}
 use Prim.Native.Nat.{ℕ, zero, suc, ◌+◌, ◌-◌, ◌≤◌, ◌<◌}
-use native.Mathlib.Nat.{sub-zero, not-suc-le-zero, le_of_suc-le-suc}
+use native.Mathlib.Nat.{sub-zero, not-suc-le-zero, le_of_suc-le-suc, le_refl}
 use native.Mathlib.Omega.{arith}
 use native.Mathlib.Numerals.{add-one}
 use lib.ListN.{length, get_or, take, drop, set, replicate, length-append, length-take, length-replicate, length-map, take-append-drop, length-drop}
-use lib.Seq.{take_all, take-suc, set-append_seam, append_snoc, take-append_seam, length-take-le, drop-append-add, drop-append_seam}
+use lib.Seq.{take_all, take-suc, set-append_seam, append_snoc, take-append_seam, length-take-le, drop-append-add, drop-append_seam, get_or-append_seam}
+use Rattle.std.proofs.lemmas.List.{drop-replicate}
 use Rattle.rules.specs.Lists.{keep, any, all}
 use Rattle.rules.proofs.Lists.{and_left, and_right, and_both}
 use Rattle.arrays.specs.Arrays.{pad}
@@ -73,6 +74,11 @@ module _ {A : Type 0} where
       behind (suc k) [] (suc i) = behind k [] i
       behind k (x ∷ xs) zero = refl
       behind k (x ∷ xs) (suc i) = behind k xs i
+
+  -- a list laid over the front of n places that are all z
+  pub laid_over : (n : ℕ) (z : A) (xs : List A) → xs ++ drop (length xs) (replicate n z) ≡ pad n z xs
+  unfolding pad
+  laid_over n z xs = ap (λ (ys : List A). xs ++ ys) (drop-replicate (length xs) n z)
 
   pub pad-none : (n : ℕ) (z : A) → pad n z [] ≡ replicate n z
   unfolding pad
@@ -276,3 +282,35 @@ all_replicate p z (suc n) e = and_both (p z) _ e (all_replicate p z n e)
 pub laid-pad : {A : Type 0} (p : A → Bool) (k : ℕ) (z : A) (xs : List A) → p z ≡ true → all p (drop (length xs) (pad k z xs)) ≡ true
 unfolding pad
 laid-pad p k z xs e = ap (all p) (drop-append_seam xs (replicate (k - length xs) z)) ∙ all_replicate p z (k - length xs) e
+
+-- A list gone over from its end: what is left is its front, and the next element is the last of that.
+module _ {A : Type 0} (xs : List A) where
+  pub record Front (left : List A) : Type 0 where
+    pub few : length left ≤ length xs
+    pub front : left ≡ take (length left) xs
+
+  pub front_all : Front xs
+  front_all = record { few = le_refl (length xs); front = sym (take_all (length xs) xs (le_refl (length xs))) }
+
+  module _ {left : List A} (f : Front left) (rest : List A) (x d : A) (e : left ≡ rest ++ x ∷ []) where
+    pub one_fewer : length left ≡ length rest + 1
+    one_fewer = ap length e ∙ length-append rest (x ∷ [])
+
+    whole : rest ++ x ∷ [] ≡ take (length rest) xs ++ get_or xs (length rest) d ∷ []
+    whole = sym e ∙ f.front ∙ ap (λ (k : ℕ). take k xs) one_fewer ∙ rw add-one (take-suc xs (length rest) d (omega (arith, f.few, one_fewer)))
+
+    pub front_next : Front rest
+    front_next =
+        let long : length (take (length rest) xs) ≡ length rest = length-take-le (length rest) xs (omega (arith, f.few, one_fewer)) in record {
+          few = omega (arith, f.few, one_fewer);
+          front = sym (take-append_seam rest (x ∷ [])) ∙ ap (take (length rest)) whole
+              ∙ ap (λ (k : ℕ). take k (take (length rest) xs ++ get_or xs (length rest) d ∷ [])) (sym long)
+              ∙ take-append_seam (take (length rest) xs) (get_or xs (length rest) d ∷ []);
+        }
+
+    pub front_last : x ≡ get_or xs (length rest) d
+    front_last =
+        let long : length (take (length rest) xs) ≡ length rest = length-take-le (length rest) xs (omega (arith, f.few, one_fewer)) in
+        sym (get_or-append_seam rest x [] d) ∙ ap (λ (l : List A). get_or l (length rest) d) whole
+        ∙ ap (λ (k : ℕ). get_or (take (length rest) xs ++ get_or xs (length rest) d ∷ []) k d) (sym long)
+        ∙ get_or-append_seam (take (length rest) xs) (get_or xs (length rest) d) [] d

@@ -1,6 +1,8 @@
 -- An array of n places that begins with a list and is filled up.
 -- Assumes nothing.
-use Rattle.std.specs.Prelude.{Bool, true, cond, ◌&&◌, List, [], ◌∷◌, ◌++◌, ℕ, ◌-◌, length, replicate}
+use denote.Param.Members.{Shared}
+use denote.Ref.{Bor}
+use Rattle.std.specs.Prelude.{◌≡◌, Bool, true, cond, ◌&&◌, List, [], ◌∷◌, ◌++◌, ℕ, ◌-◌, length, replicate}
 
 -- the list, and z in the places behind it
 unfoldable pub pad : {A : Type 0} → ℕ → A → List A → List A
@@ -17,3 +19,11 @@ module _ {A : Type 0} (lt : A → A → Bool) where
   unfoldable pub inserted_by : A → List A → List A
   inserted_by x [] = x ∷ []
   inserted_by x (y ∷ ys) = cond (lt x y) x y ∷ inserted_by (cond (lt x y) y x) ys
+
+-- a closure at a reference answers what the test says of the value there
+abbrev pub Tests : {F X : Type 0} → Shared F (Bor X × Unit {0}) Bool → (X → Bool) → F → Type 0
+Tests {F} {X} g p f = (x : Bor X) (r : Bool) → g.post f (x, tt) r → r ≡ p x.now
+
+-- and at two
+abbrev pub TestsPair : {F X : Type 0} → Shared F (Bor X × (Bor X × Unit {0})) Bool → (X → X → Bool) → F → Type 0
+TestsPair {F} {X} g p f = (x y : Bor X) (r : Bool) → g.post f (x, (y, tt)) r → r ≡ p x.now y.now

@@ -1,9 +1,8 @@
 -- What C's calls on store names answer, and what they leave in the slice that is lent to be written.
 -- Assumes nothing.
-use Rattle.std.specs.Prelude.{cond, List, ℕ, eqb, length, set}
+use Rattle.std.specs.Prelude.{cond, List, ℕ, eqb, length, set, Option, Some, None}
 use Rattle.store_names.specs.declared.Name.TheVariants.{Manifest, Object}
-use Rattle.store_names.specs.declared.NameRead.{NameRead}
-use Rattle.store_names.specs.declared.NameRead.TheVariants.{Name as IsName, Malformed as NotName}
+use Rattle.store_names.specs.declared.Name.{Name}
 use Rattle.store_names.specs.Names.{decode, read_code, number_of, Writing, writing, write_code}
 
 -- the answer, and every element of the slice
@@ -12,9 +11,9 @@ pub record Call : Type 0 where
   pub left : List ℕ
 
 -- a name's number goes to the first place
-abbrev pub with_number : NameRead → List ℕ → List ℕ
-with_number (IsName v) numbers = set numbers 0 (number_of v)
-with_number NotName numbers = numbers
+abbrev pub with_number : Option Name → List ℕ → List ℕ
+with_number (Some v) numbers = set numbers 0 (number_of v)
+with_number None numbers = numbers
 
 -- 3 where there is no place for the number; else the kind, or 2 for bytes that are no name
 unfoldable pub read_name : List ℕ → List ℕ → Call

@@ -4,7 +4,8 @@ ghost use Rattle.store_names.specs.Names.{write_code};
 ghost use Rattle.exports.specs.Names.{read_name, write_name};
 
 use crate::{FULL, MALFORMED, NO_PLACE};
-use store_names::{Name, NameRead, NameWrite};
+use fields::WriteError;
+use store_names::Name;
 
 // A name's kind.
 const MANIFEST: u64 = 0;
@@ -12,14 +13,14 @@ const MANIFEST: u64 = 0;
 const OBJECT: u64 = 1;
 
 // Reads all the bytes as one name: its kind, and its number in number[0].
+#[tactic(auto, unfolding(crate::specs::Names::read_name))]
 pub fn cuudhaqil_read_name(name: &[u8], number: &mut [u64]) -> u64
     ensures { read_name name.now number.old ≡ record { answer = result; left = number.new } }
 {
     if number.len() == 0 {
         return NO_PLACE;
     }
-    let read = store_names::read_name(name);
-    let NameRead::Name(v) = read else {
+    let Some(v) = store_names::read_name(name) else {
         return MALFORMED;
     };
     match v {
@@ -35,17 +36,18 @@ pub fn cuudhaqil_read_name(name: &[u8], number: &mut [u64]) -> u64
 }
 
 // The writer's answer as a number.
-fn write_code(w: NameWrite) -> u64
+fn write_code(w: Result<usize, WriteError>) -> u64
     ensures { result ≡ write_code w }
 {
     match w {
-        NameWrite::Written(n) => n as u64,
-        NameWrite::Malformed => MALFORMED,
-        NameWrite::Full => FULL,
+        Ok(n) => n as u64,
+        Err(WriteError::Malformed) => MALFORMED,
+        Err(WriteError::Full) => FULL,
     }
 }
 
 // Writes the name of that kind and number at the start of `out`.
+#[tactic(auto, unfolding(crate::specs::Names::write_name))]
 pub fn cuudhaqil_write_name(kind: u64, value: u64, out: &mut [u8]) -> u64
     ensures { write_name kind value out.old ≡ record { answer = result; left = out.new } }
 {

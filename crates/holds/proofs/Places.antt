@@ -2,13 +2,13 @@
 -- Assumes nothing.
 use mathlib.Core.Path.{◌≡◌, refl, sym, ap, ◌∙◌}
 use mathlib.Core.Bool.{Bool, true, false, cond}
-use mathlib.Core.List.{List, [], ◌∷◌}
-use Prim.Native.Nat.{ℕ, ◌≤◌}
+use mathlib.Core.List.{List, [], ◌∷◌, ◌++◌}
+use Prim.Native.Nat.{ℕ, suc, ◌+◌, ◌-◌, ◌≤◌, ◌<◌}
 use native.Mathlib.Omega.{arith}
 use borrow.Author.Tests.{leb-true, le-leb, eqb-true}
 use lib.Dec.{leb, ltb}
 use lib.Seq.{length-take-le}
-use lib.ListN.{length, length-map, replicate}
+use lib.ListN.{length, drop, replicate}
 use mir.Val.{Val}
 use denote.Laws.{Is}
 use Rattle.rules.specs.declared.Hold.{Hold}
@@ -16,8 +16,8 @@ use Rattle.rules.specs.Limits.{limits}
 use Rattle.rules.specs.Lists.{conj, rising_above}
 use Rattle.rules.specs.Step.{insert_hold}
 use Rattle.rules.proofs.Lists.{and_left, and_right, and_both, conj-true}
-use Rattle.rules.specs.contracts.Hold as hold
-use Rattle.arrays.proofs.Lists.{pad-laid, laid-pad, take-pad}
+use Rattle.arrays.proofs.Lists.{pad-laid, laid-pad, laid_over, take-pad, drop-pad}
+use Rattle.arrays.proofs.Sorting.{length_inserted}
 use Rattle.holds.specs.declared.Holds.{Holds}
 use Rattle.arrays.specs.Arrays.{pad, inserted_by}
 use Rattle.holds.specs.Holds.{no_hold, holds_of, lay_holds, is_no_hold, is_laid, numbers}
@@ -27,9 +27,13 @@ pub items_long : (h : Holds) (vs : List Val) → Is holds.the_row h vs → lengt
 items_long h vs is = is.1.1.1.0.1.0.1
 
 -- the places of no holds
-pub none_items : {h : Holds} → h ≡ lay_holds [] → h.items ≡ replicate 8 no_hold
+none_items : {h : Holds} → h ≡ lay_holds [] → h.items ≡ replicate 8 no_hold
 unfolding pad
 none_items e = ap (λ (h : Holds). h.items) e
+
+-- a list laid over the places of no holds
+pub packed_laid : {h : Holds} → h ≡ lay_holds [] → (kept items : List Hold) → items ≡ kept ++ drop (length kept) h.items → items ≡ pad 8 no_hold kept
+packed_laid none kept items put = put ∙ ap (λ (z : List Hold). kept ++ drop (length kept) z) (none_items none) ∙ laid_over 8 no_hold kept
 
 -- Holds that are laid out are the layout of their list, and a layout is laid out
 
@@ -81,3 +85,21 @@ inserted_rising floor x (y ∷ ys) e = step (ltb x.number y.number) (inserted_fi
         → cond b x y ∷ inserted_by earlier (cond b y x) ys ≡ cond b (x ∷ y ∷ ys) (y ∷ insert_hold x ys)
     step true f g = ap (λ (l : List Hold). x ∷ l) f
     step false f g = ap (λ (l : List Hold). y ∷ l) g
+
+-- Inserting a hold into holds that are laid out leaves their layout
+pub inserted_laid : (x : Hold) (h : Holds) (items : List Hold) → length h.items ≡ 8 → is_laid h ≡ true → h.count < limits.holds → rising_above 0 (numbers (holds_of h)) ≡ true
+    → items ≡ inserted_by earlier x (holds_of h) ++ drop (h.count + 1) h.items
+    → record { count = h.count + 1; items = items } ≡ lay_holds (insert_hold x (holds_of h))
+unfolding pad
+inserted_laid x h items long laid room rising put =
+    let new = inserted_by earlier x (holds_of h) in
+    let short : length (holds_of h) ≡ h.count = length-take-le h.count h.items (omega arith) in
+    let next : h.count + 1 ≡ suc (length (holds_of h)) = omega arith in
+    let count : h.count + 1 ≡ length new = omega (arith, length_inserted earlier x (holds_of h)) in
+    let rest : drop (h.count + 1) h.items ≡ replicate (8 - length new) no_hold =
+    ap (λ (g : Holds). drop (h.count + 1) g.items) (sym (laid_out h long laid))
+    ∙ ap (λ (k : ℕ). drop k (pad 8 no_hold (holds_of h))) next
+    ∙ drop-pad 8 no_hold (holds_of h) (omega arith)
+    ∙ ap (λ (k : ℕ). replicate (8 - k) no_hold) (sym (length_inserted earlier x (holds_of h))) in
+    let same = inserted_rising 0 x (holds_of h) rising in
+    λ j. record { count = (count ∙ ap length same) j; items = (put ∙ ap (λ (l : List Hold). new ++ l) rest ∙ ap (pad 8 no_hold) same) j }

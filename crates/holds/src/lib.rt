@@ -1,12 +1,14 @@
 // The holds of a ledger (a hold is a snapshot in source document 000): at most eight, packed in rising number.
 #![tactic(auto)]
 
-ghost use Rattle.std.specs.Prelude.{◌≡◌, true, [], map, ◌≤◌, ◌<◌};
+ghost use Rattle.std.specs.Prelude.{◌≡◌, Bool, true, [], map, ◌≤◌, ◌<◌};
+ghost use Rattle.rules.specs.declared.Hold.{Hold};
+ghost use Rattle.arrays.specs.Arrays.{Tests};
 ghost use Rattle.rules.specs.Limits.{limits};
 ghost use Rattle.rules.specs.Lists.{keep, all, rising_above};
 ghost use Rattle.rules.specs.Words.{live};
 ghost use Rattle.rules.specs.Step.{insert_hold, renewed, other};
-ghost use Rattle.holds.specs.Holds.{holds_of, lay_holds, is_no_hold, is_laid, has_number, names_manifest, manifest_by, numbers};
+ghost use Rattle.holds.specs.Holds.{holds_of, lay_holds, is_laid, has_number, names_manifest, manifest_by, numbers};
 
 use rules::{HOLDS, Hold};
 
@@ -17,28 +19,19 @@ pub struct Holds {
     pub items: [Hold; HOLDS],
 }
 
+// A place that holds nothing is all zero.
+const NO_HOLD: Hold = Hold {
+    number: 0,
+    manifest: 0,
+    expiry: 0,
+};
+
 // A hold is live while its expiry is 0 or not below the time.
+#[tactic(auto, unfolding(rules::specs::Words::live))]
 fn is_live(time: u64, hold: Hold) -> bool
     ensures { result ≡ live time hold }
 {
-    let expiry = hold.expiry;
-    if expiry == 0 {
-        return true;
-    }
-    time <= expiry
-}
-
-// A place that is all zero.
-fn is_no_hold(hold: Hold) -> bool
-    ensures { result ≡ is_no_hold hold }
-{
-    if hold.number != 0 {
-        return false;
-    }
-    if hold.manifest != 0 {
-        return false;
-    }
-    hold.expiry == 0
+    hold.expiry == 0 || time <= hold.expiry
 }
 
 // The hold, with a new expiry where it has this number.
@@ -46,62 +39,51 @@ fn with_expiry(hold: Hold, number: u64, expiry: u64) -> Hold
     ensures { result ≡ renewed number expiry hold }
 {
     if hold.number == number {
-        return Hold {
-            number: hold.number,
-            manifest: hold.manifest,
-            expiry,
-        };
+        Hold { expiry, ..hold }
+    } else {
+        hold
     }
-    hold
 }
 
 impl Holds {
+    #[tactic(auto, unfolding(arrays::specs::Arrays::pad))]
     pub fn none() -> Self
         ensures { result ≡ lay_holds [] }
     {
-        let zero = Hold {
-            number: 0,
-            manifest: 0,
-            expiry: 0,
-        };
-        let items = [zero; HOLDS];
-        Holds { count: 0, items }
+        Holds {
+            count: 0,
+            items: [NO_HOLD; HOLDS],
+        }
+    }
+
+    // The places that hold.
+    fn held(&self) -> &[Hold]
+        requires { self.now.count ≤ limits.holds }
+        ensures { result.now ≡ holds_of self.now }
+    {
+        &self.items[..self.count]
     }
 
     // Whether the places behind the holds are all zero, of any value.
+    #[tactic(auto, unfolding(crate::specs::Holds::is_laid))]
     pub fn is_laid(self) -> bool
         ensures { result ≡ is_laid self }
     {
-        let mut i = self.count;
-        if HOLDS < i {
-            return false;
-        }
-        while i < HOLDS {
-            let h = self.items[i];
-            if !is_no_hold(h) {
-                return false;
-            }
-            i += 1;
-        }
-        true
+        self.count <= HOLDS && self.items[self.count..].iter().all(|hold| *hold == NO_HOLD)
     }
 
     // Whether the numbers rise strictly and are not 0.
+    #[tactic(auto, unfolding(rules::specs::Lists::rising_above))]
     pub fn is_rising(self) -> bool
         requires { self.count ≤ limits.holds }
         ensures { result ≡ rising_above 0 (numbers (holds_of self)) }
     {
-        let count = self.count;
-        let mut last: u64 = 0;
-        let mut i: usize = 0;
-        while i < count {
-            let h = self.items[i];
-            let number = h.number;
-            if number <= last {
+        let mut last = 0;
+        for hold in self.held() {
+            if hold.number <= last {
                 return false;
             }
-            last = number;
-            i += 1;
+            last = hold.number;
         }
         true
     }
@@ -111,16 +93,7 @@ impl Holds {
         requires { self.count ≤ limits.holds }
         ensures { result ≡ all (live time) (holds_of self) }
     {
-        let count = self.count;
-        let mut i: usize = 0;
-        while i < count {
-            let h = self.items[i];
-            if !is_live(time, h) {
-                return false;
-            }
-            i += 1;
-        }
-        true
+        self.held().iter().all(|hold| is_live(time, *hold))
     }
 
     // Whether a hold has this number.
@@ -128,16 +101,7 @@ impl Holds {
         requires { self.count ≤ limits.holds }
         ensures { result ≡ has_number (holds_of self) number }
     {
-        let count = self.count;
-        let mut i: usize = 0;
-        while i < count {
-            let h = self.items[i];
-            if h.number == number {
-                return true;
-            }
-            i += 1;
-        }
-        false
+        self.held().iter().any(|hold| number == hold.number)
     }
 
     // Whether a hold names this manifest.
@@ -145,16 +109,7 @@ impl Holds {
         requires { self.count ≤ limits.holds }
         ensures { result ≡ names_manifest (holds_of self) manifest }
     {
-        let count = self.count;
-        let mut i: usize = 0;
-        while i < count {
-            let h = self.items[i];
-            if h.manifest == manifest {
-                return true;
-            }
-            i += 1;
-        }
-        false
+        self.held().iter().any(|hold| manifest == hold.manifest)
     }
 
     // The manifest that the hold of this number names, 0 where there is none.
@@ -162,16 +117,21 @@ impl Holds {
         requires { self.count ≤ limits.holds }
         ensures { result ≡ manifest_by (holds_of self) number }
     {
-        let count = self.count;
-        let mut i: usize = 0;
-        while i < count {
-            let h = self.items[i];
-            if h.number == number {
-                return h.manifest;
-            }
-            i += 1;
-        }
-        0
+        self.held()
+            .iter()
+            .find(|hold| number == hold.number)
+            .map_or(0, |hold| hold.manifest)
+    }
+
+    // The holds that pass the test.
+    fn retained<F: Fn(&Hold) -> bool>(self, keeps: F) -> Self
+        requires few { self.count ≤ limits.holds }
+        requires test { F.IsAlwaysCallable keeps }
+        ensures { (p : Hold → Bool) → Tests F.Fn p keeps → result ≡ lay_holds (keep p (holds_of self)) }
+    {
+        let mut next = Holds::none();
+        next.count = arrays::pack(self.held(), keeps, &mut next.items);
+        next
     }
 
     // The holds that are live at the time.
@@ -179,22 +139,7 @@ impl Holds {
         requires { self.count ≤ limits.holds }
         ensures { result ≡ lay_holds (keep (live time) (holds_of self)) }
     {
-        let mut next = Holds::none();
-        let count = self.count;
-        let mut n: usize = 0;
-        let mut items = next.items;
-        let mut i: usize = 0;
-        while i < count {
-            let h = self.items[i];
-            if is_live(time, h) {
-                items[n] = h;
-                n += 1;
-            }
-            i += 1;
-        }
-        next.count = n;
-        next.items = items;
-        next
+        self.retained(|hold| is_live(time, *hold))
     }
 
     // The holds but the one of this number.
@@ -202,22 +147,7 @@ impl Holds {
         requires { self.count ≤ limits.holds }
         ensures { result ≡ lay_holds (keep (other number) (holds_of self)) }
     {
-        let mut next = Holds::none();
-        let count = self.count;
-        let mut n: usize = 0;
-        let mut items = next.items;
-        let mut i: usize = 0;
-        while i < count {
-            let h = self.items[i];
-            if h.number != number {
-                items[n] = h;
-                n += 1;
-            }
-            i += 1;
-        }
-        next.count = n;
-        next.items = items;
-        next
+        self.retained(|hold| hold.number != number)
     }
 
     // The holds, with a new expiry for the one of this number.
@@ -226,40 +156,26 @@ impl Holds {
         ensures { result ≡ lay_holds (map (renewed number expiry) (holds_of self)) }
     {
         let mut next = Holds::none();
-        let count = self.count;
-        let mut items = next.items;
-        let mut i: usize = 0;
-        while i < count {
-            let h = self.items[i];
-            items[i] = with_expiry(h, number, expiry);
-            i += 1;
+        for (i, hold) in self.held().iter().enumerate() {
+            next.items[i] = with_expiry(*hold, number, expiry);
         }
-        next.count = count;
-        next.items = items;
+        next.count = self.count;
         next
     }
 
-    // The holds with one more, in rising number: at each place the smaller stays and the larger goes on.
+    // The holds with one more, in rising number.
     pub fn insert(self, hold: Hold) -> Self
         requires { (is_laid self ≡ true) × (self.count < limits.holds) × (rising_above 0 (numbers (holds_of self)) ≡ true) }
         ensures { result ≡ lay_holds (insert_hold hold (holds_of self)) }
     {
-        let count = self.count;
-        let mut items = self.items;
-        let mut x = hold;
-        let mut i: usize = 0;
-        while i < count {
-            let y = items[i];
-            if x.number < y.number {
-                items[i] = x;
-                x = y;
-            }
-            i += 1;
-        }
-        items[count] = x;
-        Holds {
-            count: count + 1,
-            items,
-        }
+        let mut next = self;
+        arrays::insert(
+            &mut next.items,
+            self.count,
+            hold,
+            |a, b| a.number < b.number,
+        );
+        next.count += 1;
+        next
     }
 }

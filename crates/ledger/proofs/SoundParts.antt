@@ -119,3 +119,12 @@ module _ (l : Ledger) (s : Sized l) (p : Laid l) where
 pub laid-sound : (l : Ledger) → Sized l → is_laid_out l ≡ true → is_sound l ≡ (objects_sound l && (manifests_sound l && holds_sound l))
 unfolding is_sound
 laid-sound l s e = ap (λ (b : Bool). b && sound limits (view l)) e ∙ sound-by_parts l s (laid_parts l e)
+
+-- the test, part by part
+pub sound_by_parts : (l : Ledger) → Sized l → is_sound l ≡ (is_laid_out l && (objects_sound l && (manifests_sound l && holds_sound l)))
+unfolding is_sound
+sound_by_parts l long = go (is_laid_out l) refl
+  where
+    go : (b : Bool) → is_laid_out l ≡ b → is_sound l ≡ (b && (objects_sound l && (manifests_sound l && holds_sound l)))
+    go true e = laid-sound l long e
+    go false e = rw e refl

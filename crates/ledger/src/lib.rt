@@ -46,15 +46,12 @@ impl Ledger {
     pub fn fresh() -> Self
         ensures { result ≡ lay fresh }
     {
-        let objects = Objects::none();
-        let manifests = Manifests::first();
-        let holds = Holds::none();
         Ledger {
             clock: 0,
             collected: 0,
-            objects,
-            manifests,
-            holds,
+            objects: Objects::none(),
+            manifests: Manifests::first(),
+            holds: Holds::none(),
         }
     }
 }

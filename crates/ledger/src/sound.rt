@@ -13,32 +13,26 @@ use manifests::{KeptManifest, Manifests};
 use objects::Objects;
 
 // Whether a manifest's list rises strictly without 0, and its objects are among those that are stored and marked as named.
+#[tactic(auto, unfolding(rules::specs::Lists::conj))]
 fn list_sound(manifest: KeptManifest, named: &[u64]) -> bool
     requires { manifest.count ≤ limits.names }
     ensures { result ≡ list_sound_by named.now manifest }
 {
-    let count = manifest.count;
-    let names = manifest.names;
-    if !rules::is_rising(&names[..count]) {
-        return false;
-    }
-    objects::all_among(named, &names[..count])
+    let names = &manifest.names[..manifest.count];
+    rules::is_rising(names) && objects::all_among(named, names)
 }
 
 // Whether every kept list is sound.
+#[tactic(auto, using(manifests::proofs::Places::few), unfolding(rules::specs::Lists::all))]
 fn lists_sound(manifests: Manifests, objects: Objects) -> bool
     requires { manifests_laid manifests ≡ true }
     ensures { result ≡ all (list_sound objects.items) (take manifests.count manifests.items) }
 {
     let named = objects.named();
-    let count = manifests.count;
-    let mut i: usize = 0;
-    while i < count {
-        let m = manifests.items[i];
-        if !list_sound(m, &named) {
+    for manifest in &manifests.items[..manifests.count] {
+        if !list_sound(*manifest, &named) {
             return false;
         }
-        i += 1;
     }
     true
 }
@@ -48,92 +42,53 @@ fn holds_kept(holds: Holds, manifests: Manifests) -> bool
     requires { (manifests_laid manifests ≡ true) × (holds.count ≤ limits.holds) }
     ensures { result ≡ all (hold_kept (manifests_of manifests)) (holds_of holds) }
 {
-    let count = holds.count;
-    let mut i: usize = 0;
-    while i < count {
-        let h = holds.items[i];
-        if !manifests.has_number(h.manifest) {
-            return false;
-        }
-        i += 1;
-    }
-    true
+    holds.items[..holds.count]
+        .iter()
+        .all(|hold| manifests.has_number(hold.manifest))
 }
 
 impl Ledger {
     // Whether the layout is kept, of any value.
+    #[tactic(auto, unfolding(rules::specs::Lists::conj))]
     fn is_laid_out(self) -> bool
         ensures { result ≡ is_laid_out self }
     {
-        let objects = self.objects;
-        if !objects.is_laid() {
-            return false;
-        }
-        let manifests = self.manifests;
-        if !manifests.is_laid() {
-            return false;
-        }
-        let holds = self.holds;
-        holds.is_laid()
+        self.objects.is_laid() && self.manifests.is_laid() && self.holds.is_laid()
     }
 
     // Whether the ledger is sound, of any value.
     pub fn is_sound(self) -> bool
         ensures { result ≡ is_sound self }
     {
-        if !self.is_laid_out() {
-            return false;
-        }
-        if !self.objects_sound() {
-            return false;
-        }
-        if !self.manifests_sound() {
-            return false;
-        }
-        self.holds_sound()
+        self.is_laid_out() && self.objects_sound() && self.manifests_sound() && self.holds_sound()
     }
 
+    #[tactic(auto, using(crate::proofs::View::laid_parts), unfolding(crate::specs::Parts::objects_sound, rules::specs::Lists::conj))]
     fn objects_sound(self) -> bool
         requires { is_laid_out self ≡ true }
         ensures { result ≡ objects_sound self }
     {
-        let manifests = self.manifests;
-        let current = manifests.current();
-        let objects = self.objects;
-        if !objects.places_sound(current.writer, current.compactor) {
-            return false;
-        }
-        objects.is_distinct()
+        let current = self.manifests.current();
+        self.objects.places_sound(current.writer, current.compactor) && self.objects.is_distinct()
     }
 
+    #[tactic(auto, using(crate::proofs::View::laid_parts, holds::proofs::Places::few), unfolding(crate::specs::Parts::manifests_sound, rules::specs::Lists::conj))]
     fn manifests_sound(self) -> bool
         requires { is_laid_out self ≡ true }
         ensures { result ≡ manifests_sound self }
     {
-        let manifests = self.manifests;
-        if !manifests.is_ordered() {
-            return false;
-        }
-        let objects = self.objects;
-        if !lists_sound(manifests, objects) {
-            return false;
-        }
-        let holds = self.holds;
-        manifests.older_held(holds)
+        self.manifests.is_ordered()
+            && lists_sound(self.manifests, self.objects)
+            && self.manifests.older_held(self.holds)
     }
 
+    #[tactic(auto, using(crate::proofs::View::laid_parts, holds::proofs::Places::few), unfolding(crate::specs::Parts::holds_sound, rules::specs::Lists::conj))]
     fn holds_sound(self) -> bool
         requires { is_laid_out self ≡ true }
         ensures { result ≡ holds_sound self }
     {
-        let holds = self.holds;
-        if !holds.is_rising() {
-            return false;
-        }
-        let manifests = self.manifests;
-        if !holds_kept(holds, manifests) {
-            return false;
-        }
-        holds.all_live(self.clock)
+        self.holds.is_rising()
+            && holds_kept(self.holds, self.manifests)
+            && self.holds.all_live(self.clock)
     }
 }

@@ -4,6 +4,7 @@ ghost use Rattle.rules.specs.declared.Kind.TheVariants.{Fence as FENCE, Put as P
 ghost use Rattle.rules.specs.declared.Role.{Role as Who};
 ghost use Rattle.rules.specs.Request.{Asked, Unreadable};
 ghost use Rattle.rules.specs.Limits.{limits};
+ghost use Rattle.rules.specs.Refusals.{number, row_of};
 ghost use Rattle.rules.specs.Step.{alone};
 ghost use Rattle.rules.specs.Table.{◌if◌, row15, first_of};
 ghost use Rattle.rules.specs.Words.{read_by};
@@ -15,7 +16,7 @@ ghost use Rattle.ledger.specs.Step.{Admitted, refused_with, answered_with, ruled
 
 use crate::{Ledger, StepAnswer};
 use manifests::KeptManifest;
-use rules::{Answer, Hold, Kind, NameList, Object, ObjectList, Role, Step, Verdict};
+use rules::{Answer, Hold, Kind, NameList, Object, ObjectList, Refusal, Role, Step, Verdict};
 
 // An answer with no list beside it.
 fn verdict_alone(answer: Answer) -> Verdict
@@ -27,10 +28,10 @@ fn verdict_alone(answer: Answer) -> Verdict
 }
 
 // Turned away: the ledger as it was.
-fn refused(row: u8, ledger: Ledger) -> StepAnswer
-    ensures { result ≡ refused_with row ledger }
+fn refused(refusal: Refusal, ledger: Ledger) -> StepAnswer
+    ensures { result ≡ refused_with (number refusal) ledger }
 {
-    let verdict = verdict_alone(Answer::Refused(row));
+    let verdict = verdict_alone(Answer::Refused(refusal.number()));
     StepAnswer { verdict, ledger }
 }
 
@@ -44,29 +45,28 @@ fn accepted(answer: Answer, ledger: Ledger) -> StepAnswer
 
 impl Ledger {
     // Rows 1 to 3, which every kind has first.
-    fn door(self, step: Step) -> u8
-        ensures { result ≡ door_of self step }
+    fn door(self, step: Step) -> Result<(), Refusal>
+        ensures { row_of result ≡ door_of self step }
     {
         if !self.is_sound() {
-            return 1;
+            return Err(Refusal::Unsound);
         }
         if !rules::is_well_formed(step) {
-            return 2;
+            return Err(Refusal::Malformed);
         }
         if step.time < self.clock {
-            return 3;
+            return Err(Refusal::Late);
         }
-        0
+        Ok(())
     }
 
     // FENCE
 
-    fn fence_row(self, slot: u64) -> u8
+    fn fence_row(self, slot: u64) -> Result<(), Refusal>
         requires { is_sound self ≡ true }
-        ensures { (t : ℕ) (who : Who) → result ≡ row_behind (view self) t (FENCE who slot) [] }
+        ensures { (t : ℕ) (who : Who) → row_of result ≡ row_behind (view self) t (FENCE who slot) [] }
     {
-        let manifests = self.manifests;
-        let current = manifests.current();
+        let current = self.manifests.current();
         rules::slot_row(slot, current.number)
     }
 
@@ -75,23 +75,19 @@ impl Ledger {
         requires { Admitted self time (FENCE role slot) [] }
         ensures { result ≡ ruled (Asked time (FENCE role slot) []) self }
     {
-        let row = self.fence_row(slot);
-        if row != 0 {
-            return refused(row, self);
+        if let Err(refusal) = self.fence_row(slot) {
+            return refused(refusal, self);
         }
-        let manifests = self.manifests;
-        let current = manifests.current();
-        let count = current.count;
-        let names = current.names;
+        let current = self.manifests.current();
         match role {
             Role::Writer => {
                 let epoch = current.writer + 1;
-                self = self.published(time, epoch, current.compactor, count, names);
+                self = self.published(time, epoch, current.compactor, current.count, current.names);
                 accepted(Answer::Epoch(epoch), self)
             }
             Role::Compactor => {
                 let epoch = current.compactor + 1;
-                self = self.published(time, current.writer, epoch, count, names);
+                self = self.published(time, current.writer, epoch, current.count, current.names);
                 accepted(Answer::Epoch(epoch), self)
             }
         }
@@ -99,30 +95,25 @@ impl Ledger {
 
     // PUT
 
-    fn put_row(self, role: Role, epoch: u64, object: u64) -> u8
+    fn put_row(self, role: Role, epoch: u64, object: u64) -> Result<(), Refusal>
         requires { is_sound self ≡ true }
-        ensures { (t c : ℕ) → result ≡ row_behind (view self) t (PUT role epoch object c) [] }
+        ensures { (t c : ℕ) → row_of result ≡ row_behind (view self) t (PUT role epoch object c) [] }
     {
-        let manifests = self.manifests;
-        let current = manifests.current();
-        let row = rules::epoch_row(
+        let current = self.manifests.current();
+        rules::epoch_row(
             epoch,
             objects::epoch_of(role, current.writer, current.compactor),
-        );
-        if row != 0 {
-            return row;
-        }
-        let objects = self.objects;
-        if objects.is_stored(object) {
-            return 9;
+        )?;
+        if self.objects.is_stored(object) {
+            return Err(Refusal::Stored);
         }
         if object <= self.collected {
-            return 10;
+            return Err(Refusal::Collected);
         }
-        if objects.is_full() {
-            return 11;
+        if self.objects.is_full() {
+            return Err(Refusal::Full);
         }
-        0
+        Ok(())
     }
 
     #[inline(never)]
@@ -130,9 +121,8 @@ impl Ledger {
         requires { Admitted self time (PUT role epoch object currency) [] }
         ensures { result ≡ ruled (Asked time (PUT role epoch object currency) []) self }
     {
-        let row = self.put_row(role, epoch, object);
-        if row != 0 {
-            return refused(row, self);
+        if let Err(refusal) = self.put_row(role, epoch, object) {
+            return refused(refusal, self);
         }
         let o = Object {
             number: object,
@@ -142,34 +132,23 @@ impl Ledger {
             named: false,
         };
         self = self.settled(time);
-        let places = self.objects;
-        self.objects = places.put(o);
+        self.objects = self.objects.put(o);
         accepted(Answer::Done, self)
     }
 
     // COMMIT
 
-    fn commit_row(self, epoch: u64, slot: u64, list: NameList) -> u8
+    fn commit_row(self, epoch: u64, slot: u64, list: NameList) -> Result<(), Refusal>
         requires { (is_sound self ≡ true) × (list.count ≤ limits.names) }
-        ensures { (t : ℕ) → result ≡ row_behind (view self) t (COMMIT epoch slot) (names_of list) }
+        ensures { (t : ℕ) → row_of result ≡ row_behind (view self) t (COMMIT epoch slot) (names_of list) }
     {
-        let manifests = self.manifests;
-        let current = manifests.current();
-        let fence = rules::fence_row(epoch, current.writer);
-        if fence != 0 {
-            return fence;
+        let current = self.manifests.current();
+        rules::fence_row(epoch, current.writer)?;
+        rules::slot_row(slot, current.number)?;
+        if !self.objects.all_stored(&list.names[..list.count]) {
+            return Err(Refusal::NotStored);
         }
-        let row = rules::slot_row(slot, current.number);
-        if row != 0 {
-            return row;
-        }
-        let objects = self.objects;
-        let count = list.count;
-        let names = list.names;
-        if !objects.all_stored(&names[..count]) {
-            return 8;
-        }
-        0
+        Ok(())
     }
 
     #[inline(never)]
@@ -177,45 +156,41 @@ impl Ledger {
         requires { (Admitted self time (COMMIT epoch slot) (names_of list)) × (is_padded list.count list.names ≡ true) }
         ensures { result ≡ ruled (Asked time (COMMIT epoch slot) (names_of list)) self }
     {
-        let row = self.commit_row(epoch, slot, list);
-        if row != 0 {
-            return refused(row, self);
+        if let Err(refusal) = self.commit_row(epoch, slot, list) {
+            return refused(refusal, self);
         }
-        let manifests = self.manifests;
-        let current = manifests.current();
-        let count = list.count;
-        let names = list.names;
-        self = self.published(time, current.writer, current.compactor, count, names);
+        let current = self.manifests.current();
+        self = self.published(
+            time,
+            current.writer,
+            current.compactor,
+            list.count,
+            list.names,
+        );
         accepted(Answer::Done, self)
     }
 
     // COMPACT
 
-    fn compact_row(self, epoch: u64, slot: u64, object: u64) -> u8
+    fn compact_row(self, epoch: u64, slot: u64, object: u64) -> Result<(), Refusal>
         requires { is_sound self ≡ true }
-        ensures { (t : ℕ) → result ≡ row_behind (view self) t (COMPACT epoch slot object) [] }
+        ensures { (t : ℕ) → row_of result ≡ row_behind (view self) t (COMPACT epoch slot object) [] }
     {
-        let manifests = self.manifests;
-        let current = manifests.current();
-        let fence = rules::fence_row(epoch, current.compactor);
-        if fence != 0 {
-            return fence;
+        let current = self.manifests.current();
+        rules::fence_row(epoch, current.compactor)?;
+        rules::slot_row(slot, current.number)?;
+        if !self.objects.is_stored(object) {
+            return Err(Refusal::NotStored);
         }
-        let row = rules::slot_row(slot, current.number);
-        if row != 0 {
-            return row;
+        let currency = self.objects.currency_of(object);
+        if self
+            .objects
+            .highest(currency, &current.names[..current.count])
+            == 0
+        {
+            return Err(Refusal::NothingToCompact);
         }
-        let objects = self.objects;
-        if !objects.is_stored(object) {
-            return 8;
-        }
-        let count = current.count;
-        let names = current.names;
-        let currency = objects.currency_of(object);
-        if objects.highest(currency, &names[..count]) == 0 {
-            return 17;
-        }
-        0
+        Ok(())
     }
 
     #[inline(never)]
@@ -223,41 +198,39 @@ impl Ledger {
         requires { Admitted self time (COMPACT epoch slot object) [] }
         ensures { result ≡ ruled (Asked time (COMPACT epoch slot object) []) self }
     {
-        let row = self.compact_row(epoch, slot, object);
-        if row != 0 {
-            return refused(row, self);
+        if let Err(refusal) = self.compact_row(epoch, slot, object) {
+            return refused(refusal, self);
         }
-        let manifests = self.manifests;
-        let current = manifests.current();
+        let current = self.manifests.current();
         let list = self.compacted(object);
-        let count = list.count;
-        let names = list.names;
-        self = self.published(time, current.writer, current.compactor, count, names);
+        self = self.published(
+            time,
+            current.writer,
+            current.compactor,
+            list.count,
+            list.names,
+        );
         accepted(Answer::Done, self)
     }
 
     // HOLD, RENEW, RELEASE
 
-    fn hold_row(self, time: u64, hold: u64, manifest: u64) -> u8
+    fn hold_row(self, time: u64, hold: u64, manifest: u64) -> Result<(), Refusal>
         requires { is_sound self ≡ true }
-        ensures { (e : ℕ) → result ≡ row_behind (view self) time (HOLD hold manifest e) [] }
+        ensures { (e : ℕ) → row_of result ≡ row_behind (view self) time (HOLD hold manifest e) [] }
     {
-        let holds = self.holds;
-        let live = holds.live(time);
+        let live = self.holds.live(time);
         if live.has_number(hold) {
-            return 12;
+            return Err(Refusal::HoldTaken);
         }
-        let manifests = self.manifests;
-        let current = manifests.current();
-        if manifest != current.number {
-            if !live.names_manifest(manifest) {
-                return 13;
-            }
+        let current = self.manifests.current();
+        if manifest != current.number && !live.names_manifest(manifest) {
+            return Err(Refusal::NotActive);
         }
         if Ledger::HOLDS <= live.count {
-            return 14;
+            return Err(Refusal::HoldsFull);
         }
-        0
+        Ok(())
     }
 
     #[inline(never)]
@@ -265,35 +238,28 @@ impl Ledger {
         requires { Admitted self time (HOLD hold manifest expiry) [] }
         ensures { result ≡ ruled (Asked time (HOLD hold manifest expiry) []) self }
     {
-        let row = self.hold_row(time, hold, manifest);
-        if row != 0 {
-            return refused(row, self);
+        if let Err(refusal) = self.hold_row(time, hold, manifest) {
+            return refused(refusal, self);
         }
         let new = Hold {
             number: hold,
             manifest,
             expiry,
         };
-        let holds = self.holds;
-        let live = holds.live(time);
+        let live = self.holds.live(time);
         self = self.holding(time, live.insert(new));
         accepted(Answer::Done, self)
     }
 
     // Row 15: a hold that is not 0 is live.
-    fn live_row(self, time: u64, hold: u64) -> u8
+    fn live_row(self, time: u64, hold: u64) -> Result<(), Refusal>
         requires { is_sound self ≡ true }
-        ensures { result ≡ first_of ((15 if row15 (view self) time hold) ∷ []) }
+        ensures { row_of result ≡ first_of ((15 if row15 (view self) time hold) ∷ []) }
     {
-        if hold == 0 {
-            return 0;
+        if hold == 0 || self.holds.live(time).has_number(hold) {
+            return Ok(());
         }
-        let holds = self.holds;
-        let live = holds.live(time);
-        if live.has_number(hold) {
-            return 0;
-        }
-        15
+        Err(Refusal::NotLive)
     }
 
     #[inline(never)]
@@ -301,12 +267,10 @@ impl Ledger {
         requires { Admitted self time (RENEW hold expiry) [] }
         ensures { result ≡ ruled (Asked time (RENEW hold expiry) []) self }
     {
-        let row = self.live_row(time, hold);
-        if row != 0 {
-            return refused(row, self);
+        if let Err(refusal) = self.live_row(time, hold) {
+            return refused(refusal, self);
         }
-        let holds = self.holds;
-        let live = holds.live(time);
+        let live = self.holds.live(time);
         self = self.holding(time, live.renew(hold, expiry));
         accepted(Answer::Done, self)
     }
@@ -316,12 +280,10 @@ impl Ledger {
         requires { Admitted self time (RELEASE hold) [] }
         ensures { result ≡ ruled (Asked time (RELEASE hold) []) self }
     {
-        let row = self.live_row(time, hold);
-        if row != 0 {
-            return refused(row, self);
+        if let Err(refusal) = self.live_row(time, hold) {
+            return refused(refusal, self);
         }
-        let holds = self.holds;
-        let live = holds.live(time);
+        let live = self.holds.live(time);
         self = self.holding(time, live.release(hold));
         accepted(Answer::Done, self)
     }
@@ -333,13 +295,11 @@ impl Ledger {
         requires { is_sound self ≡ true }
         ensures { result ≡ lay_manifest (read_by time (view self) hold) }
     {
-        let manifests = self.manifests;
         if hold == 0 {
-            return manifests.current();
+            return self.manifests.current();
         }
-        let holds = self.holds;
-        let live = holds.live(time);
-        manifests.numbered(live.manifest_by(hold))
+        let live = self.holds.live(time);
+        self.manifests.numbered(live.manifest_by(hold))
     }
 
     #[inline(never)]
@@ -347,16 +307,16 @@ impl Ledger {
         requires { Admitted self time (LIST hold) [] }
         ensures { result ≡ ruled (Asked time (LIST hold) []) self }
     {
-        let row = self.live_row(time, hold);
-        if row != 0 {
-            return refused(row, self);
+        if let Err(refusal) = self.live_row(time, hold) {
+            return refused(refusal, self);
         }
         let m = self.read_by(time, hold);
-        let count = m.count;
-        let names = m.names;
-        let list = object_list(&names[..count]);
-        let answer = Answer::Listed(m.number);
-        let verdict = Verdict { answer, list };
+        let names = &m.names[..m.count];
+        let list = object_list(names);
+        let verdict = Verdict {
+            answer: Answer::Listed(m.number),
+            list,
+        };
         self = self.settled(time);
         StepAnswer {
             verdict,
@@ -369,17 +329,14 @@ impl Ledger {
         requires { Admitted self time (LOOK currency hold) [] }
         ensures { result ≡ ruled (Asked time (LOOK currency hold) []) self }
     {
-        let row = self.live_row(time, hold);
-        if row != 0 {
-            return refused(row, self);
+        if let Err(refusal) = self.live_row(time, hold) {
+            return refused(refusal, self);
         }
         let m = self.read_by(time, hold);
-        let count = m.count;
-        let names = m.names;
-        let objects = self.objects;
-        let found = objects.highest(currency, &names[..count]);
+        let names = &m.names[..m.count];
+        let found = self.objects.highest(currency, names);
         if found == 0 {
-            return refused(16, self);
+            return refused(Refusal::NoObject, self);
         }
         self = self.settled(time);
         accepted(Answer::Found(found), self)
@@ -392,12 +349,11 @@ fn object_list(names: &[u64]) -> ObjectList
     ensures { result ≡ object_list names.now }
 {
     let mut objects = [0u64; Ledger::PLACES];
-    let mut i: usize = 0;
-    while i < names.len() {
-        objects[i] = names[i];
-        i += 1;
+    objects[..names.len()].copy_from_slice(names);
+    ObjectList {
+        count: names.len(),
+        objects,
     }
-    ObjectList { count: i, objects }
 }
 
 // The step whole
@@ -409,9 +365,7 @@ impl Ledger {
         ensures { result ≡ ruled (Asked step.time step.kind (names_of step.list)) self }
     {
         let time = step.time;
-        let list = step.list;
-        let kind = step.kind;
-        match kind {
+        match step.kind {
             Kind::Fence { role, slot } => self.fence(time, role, slot),
             Kind::Put {
                 role,
@@ -419,7 +373,7 @@ impl Ledger {
                 object,
                 currency,
             } => self.put(time, role, epoch, object, currency),
-            Kind::Commit { epoch, slot } => self.commit(time, epoch, slot, list),
+            Kind::Commit { epoch, slot } => self.commit(time, epoch, slot, step.list),
             Kind::Compact {
                 epoch,
                 slot,
@@ -443,9 +397,8 @@ impl Ledger {
     pub fn step(self, step: Step) -> StepAnswer
         ensures { result ≡ step_of self step }
     {
-        let row = self.door(step);
-        if row != 0 {
-            return refused(row, self);
+        if let Err(refusal) = self.door(step) {
+            return refused(refusal, self);
         }
         self.admitted(step)
     }
@@ -455,8 +408,8 @@ impl Ledger {
         ensures { result ≡ judged self Unreadable }
     {
         if !self.is_sound() {
-            return refused(1, self);
+            return refused(Refusal::Unsound, self);
         }
-        refused(2, self)
+        refused(Refusal::Malformed, self)
     }
 }

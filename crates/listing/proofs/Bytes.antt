@@ -1,21 +1,16 @@
--- Byte order by the first bytes, and the first line by the first byte: the cases of the loops.
+-- Byte order is the library's order of slices.
 -- Assumes nothing.
-use mathlib.Core.Path.{◌≡◌}
-use mathlib.Core.Bool.{true, false}
-use mathlib.Core.List.{List, ◌∷◌}
-use Prim.Native.Nat.{ℕ, ◌<◌}
+use mathlib.Core.Path.{◌≡◌, refl}
+use mathlib.Core.List.{List}
+use Prim.Native.Nat.{ℕ}
 use native.Mathlib.Omega.{arith}
-use borrow.Author.Tests.{lt-ltb, le-ltb, eq-eqb, ne_eqb}
+use Rattle.std.proofs.Common.{Ordering}
+use Rattle.std.specs.Ordering.{nat_cmp, is_lt}
+use Rattle.std.specs.Cmp.Lexicographic.{slice_cmp}
+use Rattle.std.proofs.lemmas.Cmp.{same_from_slice_cmp}
+use Rattle.std.proofs.lemmas.Bool.Decides.{nat_tests}
 use Rattle.listing.specs.Lines.{below}
 
-pub below_less : (a b : ℕ) (l m : List ℕ) → a < b → below (a ∷ l) (b ∷ m) ≡ true
+pub below_ordered : (xs ys : List ℕ) (o : Ordering) → o ≡ slice_cmp nat_cmp xs ys → is_lt o ≡ below xs ys
 unfolding below
-below_less a b l m h = rw (lt-ltb a b h)
-
-pub below_more : (a b : ℕ) (l m : List ℕ) → b < a → below (a ∷ l) (b ∷ m) ≡ false
-unfolding below
-below_more a b l m h = rw (le-ltb a b (omega arith), ne_eqb a b (omega arith))
-
-pub below-same : (a b : ℕ) (l m : List ℕ) → a ≡ b → below (a ∷ l) (b ∷ m) ≡ below l m
-unfolding below
-below-same a b l m h = rw (le-ltb a b (omega arith), eq-eqb a b h)
+below_ordered = same_from_slice_cmp nat_cmp is_lt below refl (λ _ _. refl) (λ _ _. refl) (λ x y xs ys o h. grind (arith, nat_tests))

@@ -4,38 +4,16 @@ use mathlib.Core.Path.{◌≡◌, refl, sym, ap, ap₂, ◌∙◌}
 use mathlib.Core.Bool.{Bool, true, false, not, cond, ◌&&◌, ◌||◌}
 use mathlib.Core.List.{List, [], ◌∷◌, ◌++◌, append_assoc, append-nil}
 use Prim.Native.Nat.{ℕ, suc, ◌+◌, ◌≤◌, ◌<◌}
-use native.Mathlib.Numerals.{add-one}
+use native.Mathlib.Numerals.{add-one, one-add}
 use native.Mathlib.Omega.{arith}
-use lib.Dec.{eqb}
+use lib.Dec.{eqb, ltb}
 use lib.ListN.{length, take, drop}
-use borrow.Author.Tests.{eq-eqb, ne_eqb, eqb-true, eqb-false, not-true}
+use borrow.Author.Tests.{ne_eqb, eqb-true, eqb-false, not-true, ltb-true, ltb-false}
+use Rattle.std.specs.Prelude.{Option, Some, None}
+use Rattle.std.specs.List.{position, position_or_len}
 use Rattle.rules.specs.Lists.{all, any, none, has}
 use Rattle.rules.proofs.Lists.{and_left, and_right, or_false-left, or_false_right}
 use Rattle.listing.specs.Lines.{Line, line_end, in_front, lines_of, joined, is_one_line, last_only, Cut}
-use Rattle.listing.specs.Turns.{line_length}
-
--- ---- how long the first line is
-
-pub line_length-none : line_length [] ≡ 0
-unfolding line_length
-line_length-none = refl
-
-pub line_length_end : (b : ℕ) (bs : List ℕ) → b ≡ line_end → line_length (b ∷ bs) ≡ 0
-unfolding line_length
-line_length_end b bs e = rw (eq-eqb b line_end e)
-
-pub line_length_more : (b : ℕ) (bs : List ℕ) → (b ≡ line_end → ⊥) → line_length (b ∷ bs) ≡ suc (line_length bs)
-unfolding line_length
-line_length_more b bs other = rw (ne_eqb b line_end other)
-
-pub line_length_le : (bytes : List ℕ) → line_length bytes ≤ length bytes
-unfolding line_length
-line_length_le [] = omega arith
-line_length_le (b ∷ bs) = step (eqb b line_end) (line_length_le bs)
-  where
-    step : (end : Bool) → line_length bs ≤ length bs → cond end 0 (suc (line_length bs)) ≤ suc (length bs)
-    step true h = omega arith
-    step false h = omega arith
 
 -- ---- what the first line is
 
@@ -43,35 +21,51 @@ pub lines_none : lines_of [] ≡ []
 unfolding lines_of
 lines_none = refl
 
+-- how many bytes it has: those before the first 0A, or all
+abbrev line_length : List ℕ → ℕ
+line_length bytes = position_or_len (λ b. eqb b line_end) bytes
+
 -- a line that is ended, and the lines behind its 0A
-pub lines_next : (bytes : List ℕ) → line_length bytes < length bytes → lines_of bytes ≡ record { bytes = take (line_length bytes) bytes; ended = true } ∷ lines_of (drop (line_length bytes + 1) bytes)
-unfolding line_length lines_of
+lines_next : (bytes : List ℕ) → line_length bytes < length bytes → lines_of bytes ≡ record { bytes = take (line_length bytes) bytes; ended = true } ∷ lines_of (drop (line_length bytes + 1) bytes)
+unfolding lines_of
 lines_next [] h = absurd (omega arith)
 lines_next (b ∷ bs) h = step (eqb b line_end) (lines_next bs) h
   where
     step : (end : Bool)
         → (line_length bs < length bs → lines_of bs ≡ record { bytes = take (line_length bs) bs; ended = true } ∷ lines_of (drop (line_length bs + 1) bs))
-        → cond end 0 (suc (line_length bs)) < suc (length bs)
+        → cond (not end) (1 + line_length bs) 0 < suc (length bs)
         → cond end (record { bytes = []; ended = true } ∷ lines_of bs) (in_front b (lines_of bs))
-        ≡ record { bytes = take (cond end 0 (suc (line_length bs))) (b ∷ bs); ended = true } ∷ lines_of (drop (cond end 0 (suc (line_length bs)) + 1) (b ∷ bs))
+        ≡ record { bytes = take (cond (not end) (1 + line_length bs) 0) (b ∷ bs); ended = true } ∷ lines_of (drop (cond (not end) (1 + line_length bs) 0 + 1) (b ∷ bs))
     step true rest h = refl
     step false rest h =
         let less : line_length bs < length bs = omega arith in
-        ap (in_front b) (rest less) ∙ simp add-one
+        ap (in_front b) (rest less) ∙ simp (add-one, one-add)
 
 -- a byte in front of bytes without 0A, by whether it is one
-torn-step : (end : Bool) (b : ℕ) (bs : List ℕ) → (line_length bs ≡ length bs → in_front b (lines_of bs) ≡ record { bytes = b ∷ bs; ended = false } ∷ [])
-    → cond end 0 (suc (line_length bs)) ≡ suc (length bs)
+torn-step : (end : Bool) (b : ℕ) (bs : List ℕ) → (length bs ≤ line_length bs → in_front b (lines_of bs) ≡ record { bytes = b ∷ bs; ended = false } ∷ [])
+    → suc (length bs) ≤ cond (not end) (1 + line_length bs) 0
     → cond end (record { bytes = []; ended = true } ∷ lines_of bs) (in_front b (lines_of bs)) ≡ record { bytes = b ∷ bs; ended = false } ∷ []
 torn-step true b bs rest h = absurd (omega arith)
 torn-step false b bs rest h = rest (omega arith)
 
 -- bytes that no 0A ends are one line that lacks it
-pub lines-torn : (bytes : List ℕ) → 0 < length bytes → line_length bytes ≡ length bytes → lines_of bytes ≡ record { bytes = bytes; ended = false } ∷ []
-unfolding line_length lines_of
+pub lines-torn : (bytes : List ℕ) → 0 < length bytes → length bytes ≤ line_length bytes → lines_of bytes ≡ record { bytes = bytes; ended = false } ∷ []
+unfolding lines_of
 lines-torn [] some h = absurd (omega arith)
 lines-torn (b ∷ []) some h = torn-step (eqb b line_end) b [] (λ e. refl) h
 lines-torn (b ∷ c ∷ cs) some h = torn-step (eqb b line_end) b (c ∷ cs) (λ e. ap (in_front b) (lines-torn (c ∷ cs) (omega arith) e)) h
+
+-- by where the first 0A stands, if one does
+abbrev pub First : List ℕ → Option ℕ → Type 0
+First bytes None = length bytes ≤ line_length bytes
+First bytes (Some n) = (n < length bytes) × (lines_of bytes ≡ record { bytes = take n bytes; ended = true } ∷ lines_of (drop (n + 1) bytes))
+
+pub first_line : (bytes : List ℕ) → First bytes (position (λ b. eqb b line_end) bytes)
+first_line bytes = by (ltb (line_length bytes) (length bytes)) refl
+  where
+    by : (t : Bool) → ltb (line_length bytes) (length bytes) ≡ t → First bytes (cond t (Some (line_length bytes)) None)
+    by true h = let less = ltb-true (line_length bytes) (length bytes) h in (less, lines_next bytes less)
+    by false h = ltb-false (line_length bytes) (length bytes) h
 
 -- ---- the lines are the bytes, each is one line, and only the last may lack 0A
 

@@ -9,11 +9,12 @@ use native.Mathlib.Omega.{arith}
 use lib.Dec.{eqb, leb, ltb, lit<}
 use lib.ListN.{length}
 use borrow.Author.Tests.{lt-ltb, le-ltb, ltb-true, ltb-false, leb-true, eq-eqb, ne_eqb, eqb-true, eqb-false}
+use Rattle.std.specs.Prelude.{bytes_eq}
 use Rattle.rules.proofs.Lists.{and_right}
 use Rattle.store_names.specs.declared.Name.{Name}
 use Rattle.store_names.specs.declared.Name.TheVariants.{Manifest, Object}
 use Rattle.store_names.specs.Decimal.{largest, digits}
-use Rattle.store_names.specs.Names.{name_digits, manifest_suffix, object_suffix, encode, is_taken, same_bytes}
+use Rattle.store_names.specs.Names.{name_digits, manifest_suffix, object_suffix, encode, is_taken}
 use Rattle.store_names.proofs.Digits.{length_digits}
 use Rattle.listing.specs.Lines.{below}
 use Rattle.listing.specs.Whole.{is_before}
@@ -26,19 +27,18 @@ parts false true r u v = refl
 parts false false r u v = refl
 
 -- the order is that of the first part, or the first is the same and it is that of the second
-below_parts : (x y s t : List ℕ) → length x ≡ length y → below (x ++ s) (y ++ t) ≡ (below x y || (same_bytes x y && below s t))
-unfolding below same_bytes
+below_parts : (x y s t : List ℕ) → length x ≡ length y → below (x ++ s) (y ++ t) ≡ (below x y || (bytes_eq x y && below s t))
+unfolding below
 below_parts [] [] s t long = refl
 below_parts [] (b ∷ y) s t long = absurd (omega arith)
 below_parts (a ∷ x) [] s t long = absurd (omega arith)
-below_parts (a ∷ x) (b ∷ y) s t long = rw (below_parts x y s t (omega arith)) (parts (ltb a b) (eqb a b) (below x y) (same_bytes x y) (below s t))
+below_parts (a ∷ x) (b ∷ y) s t long = rw (below_parts x y s t (omega arith)) (parts (ltb a b) (eqb a b) (below x y) (bytes_eq x y) (below s t))
 
-same_parts : (x y s t : List ℕ) → length x ≡ length y → same_bytes (x ++ s) (y ++ t) ≡ (same_bytes x y && same_bytes s t)
-unfolding same_bytes
+same_parts : (x y s t : List ℕ) → length x ≡ length y → bytes_eq (x ++ s) (y ++ t) ≡ (bytes_eq x y && bytes_eq s t)
 same_parts [] [] s t long = refl
 same_parts [] (b ∷ y) s t long = absurd (omega arith)
 same_parts (a ∷ x) [] s t long = absurd (omega arith)
-same_parts (a ∷ x) (b ∷ y) s t long = rw (same_parts x y s t (omega arith)) (sym (and_assoc (eqb a b) (same_bytes x y) (same_bytes s t)))
+same_parts (a ∷ x) (b ∷ y) s t long = rw (same_parts x y s t (omega arith)) (sym (and_assoc (eqb a b) (bytes_eq x y) (bytes_eq s t)))
 
 -- ---- a number is its tens and its last digit
 
@@ -68,8 +68,8 @@ tenth : (k n : ℕ) → n < 10 ^ suc k → n / 10 < 10 ^ k
 tenth k n h = (div-lt_iff_lt-mul (lit< tt)).1 (rw pow-suc at h)
 
 -- they are the same where the numbers are
-digits_same : (k m n : ℕ) → m < 10 ^ k → n < 10 ^ k → same_bytes (digits k m) (digits k n) ≡ eqb m n
-unfolding digits same_bytes
+digits_same : (k m n : ℕ) → m < 10 ^ k → n < 10 ^ k → bytes_eq (digits k m) (digits k n) ≡ eqb m n
+unfolding digits
 digits_same zero m n h i = sym (eq-eqb m n (omega arith))
 digits_same (suc k) m n h i =
     rw (
@@ -94,7 +94,7 @@ digits-below (suc k) m n h i =
 -- with one suffix behind both
 suffixed_below : (k m n : ℕ) (suffix : List ℕ) → m < 10 ^ k → n < 10 ^ k → below suffix suffix ≡ false → below (digits k m ++ suffix) (digits k n ++ suffix) ≡ ltb m n
 suffixed_below k m n suffix h i same =
-    rw (below_parts (digits k m) (digits k n) suffix suffix (same_long k m n), digits-below k m n h i, same, and-false (same_bytes (digits k m) (digits k n))) (or-false (ltb m n))
+    rw (below_parts (digits k m) (digits k n) suffix suffix (same_long k m n), digits-below k m n h i, same, and-false (bytes_eq (digits k m) (digits k n))) (or-false (ltb m n))
 
 -- ---- names
 

@@ -7,17 +7,14 @@ use Prim.Native.Nat.{ℕ, ◌≤◌, ◌<◌}
 use native.Mathlib.Omega.{arith}
 use lib.Dec.{ltb}
 use borrow.Author.Tests.{ltb-true, not-false}
+use Rattle.std.specs.Prelude.{Option, Some, None}
 use Rattle.rules.specs.Lists.{all}
 use Rattle.rules.proofs.Lists.{and_left, and_right, and_both, or_false-left, or_false_right}
 use Rattle.arrays.specs.Arrays.{chain}
 use Rattle.store_names.specs.declared.Name.{Name}
 use Rattle.store_names.specs.declared.Name.TheVariants.{Manifest, Object}
-use Rattle.store_names.specs.declared.NameRead.{NameRead}
-use Rattle.store_names.specs.declared.NameRead.TheVariants.{Name as IsName, Malformed as NotName}
 use Rattle.store_names.specs.Names.{is_taken, decode}
 use Rattle.store_names.proofs.RoundTrip.{round_trip_lem}
-use Rattle.listing.specs.declared.Optional.{Optional}
-use Rattle.listing.specs.declared.Optional.TheVariants.{None, Some}
 use Rattle.listing.specs.Lines.{Line, below}
 use Rattle.listing.specs.Listing.{is_read, is_name, is_above, is_bad, good_behind, good, with_read, names_in, higher_of, highest}
 use Rattle.listing.specs.Whole.{is_before, rising, or_else, last_manifest}
@@ -31,12 +28,12 @@ unfolding names_in all
 names-taken [] = refl
 names-taken (l ∷ ls) = by (decode l.bytes) refl (names-taken ls)
   where
-    by : (r : NameRead) → decode l.bytes ≡ r → all is_taken (names_in ls) ≡ true → all is_taken (with_read r (names_in ls)) ≡ true
-    by (IsName v) e h = and_both (is_taken v) (all is_taken (names_in ls)) (round_trip_lem.writes_read l.bytes v e).0 h
-    by NotName e h = h
+    by : (r : Option Name) → decode l.bytes ≡ r → all is_taken (names_in ls) ≡ true → all is_taken (with_read r (names_in ls)) ≡ true
+    by (Some v) e h = and_both (is_taken v) (all is_taken (names_in ls)) (round_trip_lem.writes_read l.bytes v e).0 h
+    by None e h = h
 
 -- lines that are names have their names' order
-read-order : (x y : List ℕ) (v w : Name) → decode x ≡ IsName v → decode y ≡ IsName w → below x y ≡ is_before v w
+read-order : (x y : List ℕ) (v w : Name) → decode x ≡ Some v → decode y ≡ Some w → below x y ≡ is_before v w
 read-order x y v w d e =
     let r = round_trip_lem.writes_read x v d in
     let s = round_trip_lem.writes_read y w e in
@@ -46,13 +43,13 @@ read-order x y v w d e =
 
 pub record Good (earlier : List Line) (l : Line) : Type 0 where
   pub name : Name
-  pub read : decode l.bytes ≡ IsName name
+  pub read : decode l.bytes ≡ Some name
   pub whole : l.ended ≡ true
   pub above : is_above earlier l ≡ true
 
-is_read_lem : (r : NameRead) → is_read r ≡ true → (v : Name) × (r ≡ IsName v)
-is_read_lem (IsName v) e = (v, refl)
-is_read_lem NotName e = absurd (false≢true e)
+is_read_lem : (r : Option Name) → is_read r ≡ true → (v : Name) × (r ≡ Some v)
+is_read_lem (Some v) e = (v, refl)
+is_read_lem None e = absurd (false≢true e)
 
 pub not_bad : (earlier : List Line) (l : Line) → is_bad earlier l ≡ false → Good earlier l
 not_bad earlier l e =
@@ -68,12 +65,12 @@ not_bad earlier l e =
 -- ---- the lines before the first bad one rise
 
 -- behind a line that is the name v
-rising-behind : (p : Line) (earlier ls : List Line) (v : Name) → decode p.bytes ≡ IsName v → chain is_before v (names_in (good_behind (p ∷ earlier) ls)) ≡ true
+rising-behind : (p : Line) (earlier ls : List Line) (v : Name) → decode p.bytes ≡ Some v → chain is_before v (names_in (good_behind (p ∷ earlier) ls)) ≡ true
 unfolding good_behind names_in chain
 rising-behind p earlier [] v d = refl
 rising-behind p earlier (l ∷ ls) v d = by (is_bad (p ∷ earlier) l) refl (rising-behind l (p ∷ earlier) ls)
   where
-    by : (bad : Bool) → is_bad (p ∷ earlier) l ≡ bad → ((w : Name) → decode l.bytes ≡ IsName w → chain is_before w (names_in (good_behind (l ∷ p ∷ earlier) ls)) ≡ true)
+    by : (bad : Bool) → is_bad (p ∷ earlier) l ≡ bad → ((w : Name) → decode l.bytes ≡ Some w → chain is_before w (names_in (good_behind (l ∷ p ∷ earlier) ls)) ≡ true)
         → chain is_before v (names_in (cond bad [] (l ∷ good_behind (l ∷ p ∷ earlier) ls))) ≡ true
     by true e f = refl
     by false e f =
@@ -107,11 +104,11 @@ behind-object n (Manifest m ∷ vs) e = absurd (false≢true e)
 behind-object n (Object m ∷ vs) e = rw (behind-object m vs (and_right (is_before (Object n) (Object m)) (chain is_before (Object m) vs) e))
 
 -- none, or n at least
-abbrev IsFrom : ℕ → Optional → Type 0
+abbrev IsFrom : ℕ → Option ℕ → Type 0
 IsFrom n None = Unit {0}
 IsFrom n (Some m) = n ≤ m
 
-from_else : (n m : ℕ) (o : Optional) → n < m → IsFrom m o → IsFrom n (or_else o (Some m))
+from_else : (n m : ℕ) (o : Option ℕ) → n < m → IsFrom m o → IsFrom n (or_else o (Some m))
 from_else n m None h f = omega arith
 from_else n m (Some k) h f = omega arith
 
@@ -123,11 +120,11 @@ behind-manifest n (Manifest m ∷ vs) e =
     from_else n m (last_manifest vs) (ltb-true n m (and_left (ltb n m) (chain is_before (Manifest m) vs) e)) (behind-manifest m vs (and_right (ltb n m) (chain is_before (Manifest m) vs) e))
 behind-manifest n (Object m ∷ vs) e = rw (behind-object m vs e) tt
 
-at_least : (n : ℕ) (o : Optional) → IsFrom n o → higher_of n o ≡ or_else o (Some n)
+at_least : (n : ℕ) (o : Option ℕ) → IsFrom n o → higher_of n o ≡ or_else o (Some n)
 at_least n None f = refl
 at_least n (Some m) f = ap Some (omega arith)
 
-pub or_none : (o : Optional) → or_else o None ≡ o
+pub or_none : (o : Option ℕ) → or_else o None ≡ o
 or_none None = refl
 or_none (Some n) = refl
 

@@ -1,6 +1,6 @@
 -- The reader's way through the lines, one after another, and that it comes to what the listing says.
 -- Assumes nothing.
-use mathlib.Core.Path.{◌≡◌, refl, sym, ap, ◌∙◌}
+use mathlib.Core.Path.{◌≡◌, refl, sym, ap, subst, ◌∙◌}
 use mathlib.Core.Bool.{Bool, true, false, cond}
 use mathlib.Core.List.{List, [], ◌∷◌}
 use Prim.Native.Nat.{ℕ, suc, ◌+◌, ◌≤◌, ◌<◌}
@@ -9,20 +9,20 @@ use native.Mathlib.Omega.{arith}
 use lib.Dec.{eqb, eqb-suc-suc}
 use lib.ListN.{length, take, drop}
 use borrow.Author.Tests.{ne_eqb}
+use Rattle.std.specs.Prelude.{Option, Some, None}
+use Rattle.std.specs.List.{position}
+use Rattle.std.proofs.lemmas.List.{nil_from_length}
+use Rattle.std.proofs.lemmas.Slice.{between_to_end}
 use Rattle.store_names.specs.declared.Name.{Name}
 use Rattle.store_names.specs.declared.Name.TheVariants.{Manifest, Object}
-use Rattle.store_names.specs.declared.NameRead.{NameRead}
-use Rattle.store_names.specs.declared.NameRead.TheVariants.{Name as IsName, Malformed as NotName}
 use Rattle.store_names.specs.Names.{encode, decode}
 use Rattle.store_names.proofs.RoundTrip.{round_trip_lem}
-use Rattle.listing.specs.declared.Optional.{Optional}
-use Rattle.listing.specs.declared.Optional.TheVariants.{None, Some}
 use Rattle.listing.specs.declared.Listing.{Listing}
-use Rattle.listing.specs.Lines.{Line, lines_of, below}
+use Rattle.listing.specs.Lines.{Line, line_end, lines_of, below}
 use Rattle.listing.specs.Listing.{is_above, is_bad, good_behind, good, names_in, objects_in, listing_of}
-use Rattle.listing.specs.Turns.{line_length, name_behind, with_name, with_bad}
+use Rattle.listing.specs.Turns.{name_behind, with_name, with_bad}
 use Rattle.listing.specs.Whole.{last_manifest, or_else, manifest_in}
-use Rattle.listing.proofs.Cutting.{lines_next, lines-torn}
+use Rattle.listing.proofs.Cutting.{First, first_line, lines_none, lines-torn}
 use Rattle.listing.proofs.Rising.{or_none, highest-good}
 
 -- what lines say where there are none
@@ -30,30 +30,34 @@ abbrev pub nothing : Listing
 nothing = record { manifest = None; objects = 0; bad = None }
 
 -- a line that is bad ends it
-abbrev pub go_on : NameRead → Listing → ℕ → (Name → Listing) → Listing
-go_on NotName said i next = with_bad said i
-go_on (IsName v) said i next = next v
+abbrev pub go_on : Option Name → Listing → ℕ → (Name → Listing) → Listing
+go_on None said i next = with_bad said i
+go_on (Some v) said i next = next v
 
 -- what lines say behind others that said so: i is the first one's number, and `before` the bytes of the line before it
 unfoldable pub tell : Listing → ℕ → List ℕ → List Line → Listing
 tell said i before [] = said
-tell said i before (l ∷ ls) = go_on (cond l.ended (name_behind before l.bytes) NotName) said i (λ v. tell (with_name said v) (i + 1) l.bytes ls)
+tell said i before (l ∷ ls) = go_on (cond l.ended (name_behind before l.bytes) None) said i (λ v. tell (with_name said v) (i + 1) l.bytes ls)
 
--- ---- one turn
+-- ---- one turn, by where the first 0A of what is left stands
 
 module _ (said : Listing) (i : ℕ) (before rest : List ℕ) where
-  pub tell-torn : 0 < length rest → line_length rest ≡ length rest → tell said i before (lines_of rest) ≡ with_bad said i
+  pub tells_name : (n : ℕ) (v : Name) → position (λ b. eqb b line_end) rest ≡ Some n → name_behind before (take n rest) ≡ Some v
+      → tell said i before (lines_of rest) ≡ tell (with_name said v) (i + 1) (take n rest) (lines_of (drop (n + 1) rest))
   unfolding tell
-  tell-torn some torn = rw (lines-torn rest some torn)
+  tells_name n v at is = rw ((subst (First rest) at (first_line rest)).1, is)
 
-  pub tell_bad : line_length rest < length rest → name_behind before (take (line_length rest) rest) ≡ NotName → tell said i before (lines_of rest) ≡ with_bad said i
+  pub tells_bad : (n : ℕ) → position (λ b. eqb b line_end) rest ≡ Some n → name_behind before (take n rest) ≡ None → tell said i before (lines_of rest) ≡ with_bad said i
   unfolding tell
-  tell_bad whole bad = rw (lines_next rest whole, bad)
+  tells_bad n at bad = rw ((subst (First rest) at (first_line rest)).1, bad)
 
-  pub tell-next : line_length rest < length rest → (v : Name) → name_behind before (take (line_length rest) rest) ≡ IsName v
-      → tell said i before (lines_of rest) ≡ tell (with_name said v) (i + 1) (take (line_length rest) rest) (lines_of (drop (line_length rest + 1) rest))
+  pub tells_torn : position (λ b. eqb b line_end) rest ≡ None → 0 < length rest → tell said i before (lines_of rest) ≡ with_bad said i
   unfolding tell
-  tell-next whole v is = rw (lines_next rest whole, is)
+  tells_torn none some = rw (lines-torn rest some (subst (First rest) none (first_line rest)))
+
+  pub tells_end : length rest ≡ 0 → tell said i before (lines_of rest) ≡ said
+  unfolding tell
+  tells_end none = rw (nil_from_length rest none, lines_none)
 
 -- ---- and all of them
 
@@ -67,38 +71,38 @@ unfolding below
 above_none (Manifest n) = refl
 above_none (Object n) = refl
 
-above_last : (earlier : List Line) (l : Line) (v : Name) → decode l.bytes ≡ IsName v → is_above earlier l ≡ below (last_bytes earlier) l.bytes
+above_last : (earlier : List Line) (l : Line) (v : Name) → decode l.bytes ≡ Some v → is_above earlier l ≡ below (last_bytes earlier) l.bytes
 above_last [] l v is = sym (ap (below []) (sym (round_trip_lem.writes_read l.bytes v is).1) ∙ above_none v)
 above_last (p ∷ earlier) l v is = refl
 
 -- what the reader makes of a line
-unfoldable read_of : List Line → Line → NameRead
-read_of earlier l = cond l.ended (name_behind (last_bytes earlier) l.bytes) NotName
+unfoldable read_of : List Line → Line → Option Name
+read_of earlier l = cond l.ended (name_behind (last_bytes earlier) l.bytes) None
 
 -- a line is bad, or it is a name
 data Told (earlier : List Line) (l : Line) : Type 0 where
-  bad : read_of earlier l ≡ NotName → is_bad earlier l ≡ true → Told earlier l
-  name : (v : Name) → read_of earlier l ≡ IsName v → is_bad earlier l ≡ false → decode l.bytes ≡ IsName v → Told earlier l
+  bad : read_of earlier l ≡ None → is_bad earlier l ≡ true → Told earlier l
+  name : (v : Name) → read_of earlier l ≡ Some v → is_bad earlier l ≡ false → decode l.bytes ≡ Some v → Told earlier l
 
 told : (earlier : List Line) (l : Line) → Told earlier l
 unfolding read_of name_behind
 told earlier l = by_name (decode l.bytes) refl l.ended refl
   where
-    by_order : (v : Name) → decode l.bytes ≡ IsName v → l.ended ≡ true → (b : Bool) → below (last_bytes earlier) l.bytes ≡ b → Told earlier l
+    by_order : (v : Name) → decode l.bytes ≡ Some v → l.ended ≡ true → (b : Bool) → below (last_bytes earlier) l.bytes ≡ b → Told earlier l
     by_order v is ended true above = name v (rw (ended, above, is)) (rw (is, above_last earlier l v is, above, ended)) is
     by_order v is ended false isn't = bad (rw (ended, isn't)) (rw (is, above_last earlier l v is, isn't, ended))
 
-    by_name : (r : NameRead) → decode l.bytes ≡ r → (e : Bool) → l.ended ≡ e → Told earlier l
-    by_name (IsName v) is true ended = by_order v is ended (below (last_bytes earlier) l.bytes) refl
-    by_name (IsName v) is false torn = bad (rw torn) (rw (is, torn))
-    by_name NotName is e ended = bad (rw is (no_name l.ended (below (last_bytes earlier) l.bytes))) (rw is)
+    by_name : (r : Option Name) → decode l.bytes ≡ r → (e : Bool) → l.ended ≡ e → Told earlier l
+    by_name (Some v) is true ended = by_order v is ended (below (last_bytes earlier) l.bytes) refl
+    by_name (Some v) is false torn = bad (rw torn) (rw (is, torn))
+    by_name None is e ended = bad (rw is (no_name l.ended (below (last_bytes earlier) l.bytes))) (rw is)
       where
-        no_name : (e b : Bool) → cond e (cond b NotName NotName) NotName ≡ NotName
+        no_name : (e b : Bool) → cond {A = Option Name} e (cond b None None) None ≡ None
         no_name true true = refl
         no_name true false = refl
         no_name false b = refl
 
-or_else_assoc : (a b c : Optional) → or_else a (or_else b c) ≡ or_else (or_else a b) c
+or_else_assoc : (a b c : Option ℕ) → or_else a (or_else b c) ≡ or_else (or_else a b) c
 or_else_assoc None b c = refl
 or_else_assoc (Some n) b c = refl
 
@@ -130,7 +134,7 @@ added said i g ls =
       bad = cond (eqb (length g) (length ls)) said.bad (Some (i + length g));
     }
 
-added_name : (said : Listing) (i : ℕ) (l : Line) (g ls : List Line) (v : Name) → decode l.bytes ≡ IsName v → added (with_name said v) (i + 1) g ls ≡ added said i (l ∷ g) (l ∷ ls)
+added_name : (said : Listing) (i : ℕ) (l : Line) (g ls : List Line) (v : Name) → decode l.bytes ≡ Some v → added (with_name said v) (i + 1) g ls ≡ added said i (l ∷ g) (l ∷ ls)
 unfolding names_in last_manifest
 added_name said i l g ls v is =
     let next : i + 1 + length g ≡ i + suc (length g) = omega arith in
@@ -157,3 +161,6 @@ tell-added (l ∷ ls) earlier said i = by-line (told earlier l) (λ v. tell-adde
 pub tell-all : (bytes : List ℕ) → tell nothing 0 [] (lines_of bytes) ≡ listing_of bytes
 unfolding listing_of
 tell-all bytes = tell-added (lines_of bytes) [] nothing 0 ∙ rw (or_none (last_manifest (names_in (good (lines_of bytes)))), highest-good (lines_of bytes), zero-add (objects_in (names_in (good (lines_of bytes)))), zero-add (length (good (lines_of bytes))))
+
+-- the reader's turns, and what it begins with
+pub ruleset turns = (tells_name, tells_bad, between_to_end, tells_torn, tells_end, tell-all, with_few)

@@ -9,6 +9,7 @@ use lib.Dec.{eqb}
 use lib.ListN.{length}
 use lib.Seq.{append_snoc}
 use borrow.Author.Tests.{eq-eqb, ne_eqb, eqb-true}
+use Rattle.std.specs.Prelude.{Some, None}
 use Rattle.rules.specs.Lists.{keep, any, all, has}
 use Rattle.rules.proofs.Lists.{and_left, and_right, and_both}
 use Rattle.arrays.specs.Arrays.{chain}
@@ -16,9 +17,8 @@ use Rattle.arrays.proofs.Lists.{any_append}
 use Rattle.store_names.specs.declared.Name.{Name}
 use Rattle.store_names.specs.declared.Name.TheVariants.{Manifest, Object}
 use Rattle.store_names.specs.Decimal.{digits}
-use Rattle.store_names.specs.Names.{name_digits, manifest_suffix, object_suffix, encode, is_taken, same_bytes}
+use Rattle.store_names.specs.Names.{name_digits, manifest_suffix, object_suffix, encode, is_taken}
 use Rattle.store_names.proofs.RoundTrip.{round_trip_lem}
-use Rattle.listing.specs.declared.Optional.TheVariants.{None, Some}
 use Rattle.listing.specs.Lines.{Line, line_end, lines_of, joined, is_one_line, last_only}
 use Rattle.listing.specs.Listing.{is_bad, good_behind, good, first_bad, names_in, objects_in, listing_of}
 use Rattle.listing.specs.Whole.{Whole, is_before, rising, text_of, last_manifest, is_in_wal}
@@ -128,7 +128,7 @@ bad_none ls e = good-whole [] ls (eqb-true (length (good ls)) (length ls) (by (e
 
 -- objects are what stands in `wal/`
 in_wal : (vs : List Name) → length (keep is_in_wal (lines_for vs)) ≡ objects_in vs
-unfolding keep same_bytes objects_in
+unfolding keep objects_in
 in_wal [] = refl
 in_wal (Manifest n ∷ vs) = in_wal vs
 in_wal (Object n ∷ vs) = ap suc (in_wal vs)

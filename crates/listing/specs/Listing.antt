@@ -1,23 +1,19 @@
 -- What a listing says (document 02, request 5): "the highest manifest number or none, the number of objects, and the first
 -- bad line, counted from 0, or none; the first two cover the lines before it".
 -- Assumes nothing.
-use Rattle.std.specs.Prelude.{Bool, true, false, not, cond, ◌||◌, List, [], ◌∷◌, ℕ, suc, max, eqb, length}
+use Rattle.std.specs.Prelude.{Bool, true, false, not, cond, ◌||◌, List, [], ◌∷◌, ℕ, suc, max, eqb, length, Option, Some, None}
 use Rattle.store_names.specs.declared.Name.{Name}
 use Rattle.store_names.specs.declared.Name.TheVariants.{Manifest, Object}
-use Rattle.store_names.specs.declared.NameRead.{NameRead}
-use Rattle.store_names.specs.declared.NameRead.TheVariants.{Name as IsName, Malformed as NotName}
 use Rattle.store_names.specs.Names.{decode}
-use Rattle.listing.specs.declared.Optional.{Optional}
-use Rattle.listing.specs.declared.Optional.TheVariants.{None, Some}
 use Rattle.listing.specs.declared.Listing.{Listing}
 use Rattle.listing.specs.Lines.{Line, lines_of, below}
 
 -- ---- the first bad line
 
 -- a name was read
-abbrev pub is_read : NameRead → Bool
-is_read (IsName v) = true
-is_read NotName = false
+abbrev pub is_read : Option Name → Bool
+is_read (Some v) = true
+is_read None = false
 
 -- the bytes are a name
 abbrev pub is_name : List ℕ → Bool
@@ -41,15 +37,15 @@ abbrev pub good : List Line → List Line
 good ls = good_behind [] ls
 
 -- the first bad line's number is how many are before it
-abbrev pub first_bad : List Line → Optional
+abbrev pub first_bad : List Line → Option ℕ
 first_bad ls = cond (eqb (length (good ls)) (length ls)) None (Some (length (good ls)))
 
 -- ---- what the lines before it say
 
 -- the name that was read, if one was, in front of others
-abbrev pub with_read : NameRead → List Name → List Name
-with_read (IsName v) vs = v ∷ vs
-with_read NotName vs = vs
+abbrev pub with_read : Option Name → List Name → List Name
+with_read (Some v) vs = v ∷ vs
+with_read None vs = vs
 
 -- the names that the lines are
 unfoldable pub names_in : List Line → List Name
@@ -57,12 +53,12 @@ names_in [] = []
 names_in (l ∷ ls) = with_read (decode l.bytes) (names_in ls)
 
 -- the higher of a number and one that may be none
-abbrev pub higher_of : ℕ → Optional → Optional
+abbrev pub higher_of : ℕ → Option ℕ → Option ℕ
 higher_of n None = Some n
 higher_of n (Some m) = Some (max n m)
 
 -- the highest manifest number, or none
-unfoldable pub highest : List Name → Optional
+unfoldable pub highest : List Name → Option ℕ
 highest [] = None
 highest (Manifest n ∷ vs) = higher_of n (highest vs)
 highest (Object n ∷ vs) = highest vs

@@ -1,23 +1,15 @@
 -- What the reader does with one line, as its private helpers promise it; what it promises itself is `listing_of`.
 -- Assumes nothing.
-use Rattle.std.specs.Prelude.{cond, List, [], ◌∷◌, ℕ, suc, ◌+◌, eqb}
+use Rattle.std.specs.Prelude.{cond, List, ℕ, ◌+◌, Option, Some, None}
 use Rattle.store_names.specs.declared.Name.{Name}
 use Rattle.store_names.specs.declared.Name.TheVariants.{Manifest, Object}
-use Rattle.store_names.specs.declared.NameRead.{NameRead}
-use Rattle.store_names.specs.declared.NameRead.TheVariants.{Malformed}
 use Rattle.store_names.specs.Names.{decode}
-use Rattle.listing.specs.declared.Optional.TheVariants.{Some}
 use Rattle.listing.specs.declared.Listing.{Listing}
-use Rattle.listing.specs.Lines.{line_end, below}
-
--- how many bytes the line at the front has: those before the first 0A, or all
-unfoldable pub line_length : List ℕ → ℕ
-line_length [] = 0
-line_length (b ∷ bs) = cond (eqb b line_end) 0 (suc (line_length bs))
+use Rattle.listing.specs.Lines.{below}
 
 -- the name that a line is, where it stands above the line before
-unfoldable pub name_behind : List ℕ → List ℕ → NameRead
-name_behind before line = cond (below before line) (decode line) Malformed
+unfoldable pub name_behind : List ℕ → List ℕ → Option Name
+name_behind before line = cond (below before line) (decode line) None
 
 -- what lines say with a name more: the last manifest, and the number of objects
 abbrev pub with_name : Listing → Name → Listing

@@ -1,13 +1,11 @@
 -- Whole listings: which they are, and what they say.
 -- Assumes nothing.
-use Rattle.std.specs.Prelude.{◌≡◌, Bool, true, false, List, [], ◌∷◌, ◌++◌, ℕ, ltb, length, take}
+use Rattle.std.specs.Prelude.{◌≡◌, Bool, true, false, List, [], ◌∷◌, ◌++◌, ℕ, ltb, length, take, bytes_eq, Option, Some, None}
 use Rattle.rules.specs.Lists.{keep, all}
 use Rattle.arrays.specs.Arrays.{chain}
 use Rattle.store_names.specs.declared.Name.{Name}
 use Rattle.store_names.specs.declared.Name.TheVariants.{Manifest, Object}
-use Rattle.store_names.specs.Names.{encode, is_taken, same_bytes, object_folder}
-use Rattle.listing.specs.declared.Optional.{Optional}
-use Rattle.listing.specs.declared.Optional.TheVariants.{None, Some}
+use Rattle.store_names.specs.Names.{encode, is_taken, object_folder}
 use Rattle.listing.specs.Lines.{Line, line_end, lines_of, below}
 use Rattle.listing.specs.Listing.{names_in, objects_in, listing_of}
 
@@ -29,23 +27,23 @@ text_of [] = []
 text_of (v ∷ vs) = encode v ++ line_end ∷ text_of vs
 
 -- the first, or the second where the first is none
-abbrev pub or_else : Optional → Optional → Optional
+abbrev pub or_else : Option ℕ → Option ℕ → Option ℕ
 or_else None o = o
 or_else (Some n) o = Some n
 
 -- a manifest's number
-abbrev pub manifest_in : Name → Optional
+abbrev pub manifest_in : Name → Option ℕ
 manifest_in (Manifest n) = Some n
 manifest_in (Object n) = None
 
 -- the last manifest's number, or none
-unfoldable pub last_manifest : List Name → Optional
+unfoldable pub last_manifest : List Name → Option ℕ
 last_manifest [] = None
 last_manifest (v ∷ vs) = or_else (last_manifest vs) (manifest_in v)
 
 -- a `wal/` line
 abbrev pub is_in_wal : Line → Bool
-is_in_wal l = same_bytes (take (length object_folder) l.bytes) object_folder
+is_in_wal l = bytes_eq (take (length object_folder) l.bytes) object_folder
 
 -- claimed
 pub record Whole : Type 0 where

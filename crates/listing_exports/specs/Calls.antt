@@ -1,19 +1,17 @@
 -- The listing of a bucket as C sees it: what the call answers, and every element of the slice that it may write.
 -- Assumes nothing.
-use Rattle.std.specs.Prelude.{cond, List, [], ◌∷◌, ℕ, ltb, length}
+use Rattle.std.specs.Prelude.{cond, List, [], ◌∷◌, ℕ, ltb, length, Option, Some, None}
 use Rattle.fields.specs.Fields.{over}
 use Rattle.exports.specs.Names.{Call}
-use Rattle.listing.specs.declared.Optional.{Optional}
-use Rattle.listing.specs.declared.Optional.TheVariants.{None, Some}
 use Rattle.listing.specs.declared.Listing.{Listing}
 use Rattle.listing.specs.Listing.{listing_of}
 
 -- a number that may be none is two: whether there is one, and it or 0
-abbrev pub is_some : Optional → ℕ
+abbrev pub is_some : Option ℕ → ℕ
 is_some None = 0
 is_some (Some n) = 1
 
-abbrev pub or_zero : Optional → ℕ
+abbrev pub or_zero : Option ℕ → ℕ
 or_zero None = 0
 or_zero (Some n) = n
 

@@ -2,35 +2,15 @@
 #![tactic(auto)]
 
 ghost use Rattle.std.specs.Prelude.{◌≡◌};
-ghost use Rattle.listing_exports.specs.Calls.{is_some, or_zero, read_listing};
+ghost use Rattle.listing_exports.specs.Calls.{read_listing};
 
-use exports::{NO_PLACE, codec};
-use listing::Optional;
+use exports::NO_PLACE;
 
 // How many numbers a listing has.
 const LISTING: usize = 4;
 
-// 1 for a number, 0 for none.
-fn is_some(o: Optional) -> u64
-    ensures { result ≡ is_some o }
-{
-    match o {
-        Optional::Some(_) => 1,
-        Optional::None => 0,
-    }
-}
-
-// The number, or 0.
-fn or_zero(o: Optional) -> u64
-    ensures { result ≡ or_zero o }
-{
-    match o {
-        Optional::Some(n) => n,
-        Optional::None => 0,
-    }
-}
-
 // Reads all the bytes as a listing: its four numbers, and whether a line is bad.
+#[tactic(auto, unfolding(crate::specs::Calls::read_listing))]
 pub fn cuudhaqil_read_listing(bytes: &[u8], numbers: &mut [u64]) -> u64
     ensures { read_listing bytes.now numbers.old ≡ record { answer = result; left = numbers.new } }
 {
@@ -38,14 +18,12 @@ pub fn cuudhaqil_read_listing(bytes: &[u8], numbers: &mut [u64]) -> u64
         return NO_PLACE;
     }
     let said = listing::read_listing(bytes);
-    let manifest = said.manifest;
-    let bad = said.bad;
     let from = [
-        is_some(manifest),
-        or_zero(manifest),
+        u64::from(said.manifest.is_some()),
+        said.manifest.unwrap_or(0),
         said.objects,
-        or_zero(bad),
+        said.bad.unwrap_or(0),
     ];
     ledger_numbers::fill(&from, numbers);
-    is_some(bad)
+    u64::from(said.bad.is_some())
 }

@@ -7,7 +7,7 @@ use log_check::Checked;
 use std::fs::File;
 use std::io::Read;
 use std::rt::Files;
-use terminal::{Input, say, say_error, say_line};
+use terminal::{say, say_error, say_line};
 
 // The most bytes that a file has.
 const LONGEST: usize = 32768;
@@ -22,22 +22,7 @@ fn say_checked(rt: &impl Print, found: Checked) {
     }
 }
 
-// Checks the first n bytes of one room as a trace and the first k of the other as its log; where one of them is full its
-// file is too long, and nothing is checked.
-fn check_read(rt: &impl Print, trace: &[u8], n: usize, log: &[u8], k: usize) {
-    if n < trace.len() {
-        if k < log.len() {
-            say_checked(
-                rt,
-                log_check::check_log(Ledger::fresh(), &trace[..n], &log[..k]),
-            );
-            return;
-        }
-    }
-    say(rt, b"too long\n");
-}
-
-// Where a read fails nothing is checked, and standard output stays empty.
+// A file that fills its room is too long, and nothing is checked then. Where a read fails standard output stays empty.
 fn check_open(
     rt: &impl Print,
     errors: &impl Print,
@@ -46,22 +31,27 @@ fn check_open(
 ) {
     let mut trace = [0; ROOM];
     let mut log = [0; ROOM];
-    let Input::Read(n) = terminal::read_open(trace_file, &mut trace) else {
+    let Ok(n) = terminal::read_open(trace_file, &mut trace) else {
         say_error(errors, b"check_log: cannot read the trace\n");
         return;
     };
-    let Input::Read(k) = terminal::read_open(log_file, &mut log) else {
+    let Ok(k) = terminal::read_open(log_file, &mut log) else {
         say_error(errors, b"check_log: cannot read the log\n");
         return;
     };
-    check_read(rt, &trace, n, &log, k);
+    if n < ROOM && k < ROOM {
+        say_checked(
+            rt,
+            log_check::check_log(Ledger::fresh(), &trace[..n], &log[..k]),
+        );
+    } else {
+        say(rt, b"too long\n");
+    }
 }
 
 // A file that is not there, or cannot be opened, is told before all else.
 pub fn check(rt: &(impl Files + Print), errors: &impl Print) {
-    let trace_opened = File::open(rt, "trace");
-    let log_opened = File::open(rt, "log");
-    match (trace_opened, log_opened) {
+    match (File::open(rt, "trace"), File::open(rt, "log")) {
         (Ok(mut trace_file), Ok(mut log_file)) => check_open(
             rt,
             errors,

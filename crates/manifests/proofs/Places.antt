@@ -39,13 +39,13 @@ module _ {A : Type 0} (p : A → Bool) where
   all-at (x ∷ xs) e zero d h = and_left (p x) (all p xs) e
   all-at (x ∷ xs) e (suc i) d h = all-at xs (and_right (p x) (all p xs) e) i d (le_of_suc-le-suc h)
 
-  pub all_take : (n : ℕ) (l : List A) → all p l ≡ true → all p (take n l) ≡ true
+  all_take : (n : ℕ) (l : List A) → all p l ≡ true → all p (take n l) ≡ true
   unfolding all
   all_take zero l e = refl
   all_take (suc n) [] e = refl
   all_take (suc n) (x ∷ xs) e = and_both (p x) _ (and_left (p x) (all p xs) e) (all_take n xs (and_right (p x) (all p xs) e))
 
-  pub all_drop : (n : ℕ) (l : List A) → all p l ≡ true → all p (drop n l) ≡ true
+  all_drop : (n : ℕ) (l : List A) → all p l ≡ true → all p (drop n l) ≡ true
   unfolding all
   all_drop zero l e = e
   all_drop (suc n) [] e = refl
@@ -174,7 +174,7 @@ module _ (ms : Manifests) (l : Long ms) (e : is_laid ms ≡ true) where
       (rw (take-take n ms.count ms.items h) at (all_take is_list_laid n (take ms.count ms.items) padded))
 
   -- each kept manifest is laid out
-  pub kept-formed : (i : ℕ) → i < ms.count → lay_manifest (manifest_of (get_or ms.items i past_end)) ≡ get_or ms.items i past_end
+  kept-formed : (i : ℕ) → i < ms.count → lay_manifest (manifest_of (get_or ms.items i past_end)) ≡ get_or ms.items i past_end
   kept-formed i h =
       let at = get_or-take ms.count ms.items i past_end h in
       ap (λ (m : KeptManifest). lay_manifest (manifest_of m)) (sym at)
@@ -236,10 +236,7 @@ lay-laid ms h k f =
     ap (λ (n : ℕ). all is_no_manifest (drop n places)) same ∙ laid-pad is_no_manifest (manifest_limit limits) no_manifest (map lay_manifest ms) no_manifest-zero in
     true-conj _ (le-leb 1 (length ms) h, (le-leb (length ms) (manifest_limit limits) k, (laid, (rest, tt))))
 
--- places that are all zero, and those of manifest 0 alone
-pub zero_items : {z : KeptManifest} → z ≡ lay_manifest first_manifest → replicate (manifest_limit limits) z ≡ replicate (manifest_limit limits) no_manifest
-zero_items e = ap (replicate (manifest_limit limits)) (e ∙ first-laid)
-
+-- the places of manifest 0 alone
 pub first_items : {z : KeptManifest} → z ≡ lay_manifest first_manifest → replicate (manifest_limit limits) z ≡ (lay_manifests (first_manifest ∷ [])).items
 unfolding pad
-first_items e = zero_items e ∙ (λ i. sym first-laid i ∷ replicate limits.holds no_manifest)
+first_items e = ap (replicate (manifest_limit limits)) (e ∙ first-laid) ∙ (λ i. sym first-laid i ∷ replicate limits.holds no_manifest)

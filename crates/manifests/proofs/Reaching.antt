@@ -179,13 +179,9 @@ list_at_lem (a ∷ rest) [] i = refl
 list_at_lem (a ∷ rest) (n ∷ counts) zero = refl
 list_at_lem (a ∷ rest) (n ∷ counts) (suc i) = list_at_lem rest counts i
 
--- what is asked of the lists, at i
-module _ {names : List (List ℕ)} {counts : List ℕ} (s : Searchable names counts) (i : ℕ) (h : i < length counts) where
-  pub list-few : get_or counts i 0 ≤ limits.names
-  list-few = leb-true _ _ (all-at (λ n. leb n limits.names) counts s.lists i 0 h)
-
-  pub array_whole : length (get_or names i []) ≡ limits.names
-  array_whole = eqb-true _ _ (all-at (λ a. eqb (length a) limits.names) names s.whole i [] (omega (arith, s.arrays)))
+-- what is asked of the counts, at i
+pub list_few : {names : List (List ℕ)} {counts : List ℕ} (s : Searchable names counts) (i : ℕ) → i < length counts → get_or counts i 0 ≤ limits.names
+list_few {counts = counts} s i h = leb-true _ _ (all-at (λ n. leb n limits.names) counts s.lists i 0 h)
 
 -- The lists of the kept manifests
 

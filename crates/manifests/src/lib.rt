@@ -32,6 +32,7 @@ pub struct Manifests {
 }
 
 // What the reach test finds, and how many names of the list in each place it read.
+// stays: no Option: `reach_of` promises what was read where nothing is found too.
 #[derive(Clone, Copy)]
 pub struct Reach {
     pub found: bool,
@@ -39,38 +40,35 @@ pub struct Reach {
 }
 
 // A place that is all zero; it is also manifest 0 of the fresh ledger.
-fn zero() -> KeptManifest
-    ensures { result ≡ lay_manifest first_manifest }
-{
-    let names = [0u64; NAMES];
-    KeptManifest {
-        number: 0,
-        writer: 0,
-        compactor: 0,
-        count: 0,
-        names,
-    }
-}
+const ZERO: KeptManifest = KeptManifest {
+    number: 0,
+    writer: 0,
+    compactor: 0,
+    count: 0,
+    names: [0; NAMES],
+};
 
 // Whether a place is all zero.
-fn is_no_manifest(manifest: KeptManifest) -> bool
-    ensures { result ≡ is_no_manifest manifest }
+#[tactic(auto, unfolding(crate::specs::Manifests::is_no_manifest, rules::specs::Lists::conj))]
+fn is_no_manifest(manifest: &KeptManifest) -> bool
+    ensures { result ≡ is_no_manifest manifest.now }
 {
-    if manifest.number != 0 {
-        return false;
-    }
-    if manifest.writer != 0 {
-        return false;
-    }
-    if manifest.compactor != 0 {
-        return false;
-    }
-    let count = manifest.count;
-    if count != 0 {
-        return false;
-    }
-    let names = manifest.names;
-    rules::is_padded(count, &names)
+    manifest.number == 0
+        && manifest.writer == 0
+        && manifest.compactor == 0
+        && manifest.count == 0
+        && rules::is_padded(manifest.count, &manifest.names)
+}
+
+// Whether the two epochs add to at most the number, and neither is below the one before.
+#[tactic(auto, unfolding(crate::specs::Manifests::epochs_follow, rules::specs::Lists::conj))]
+fn follows(manifest: &KeptManifest, writer: u64, compactor: u64) -> bool
+    ensures { result ≡ epochs_follow writer compactor (manifest_of manifest.now) }
+{
+    writer <= manifest.writer
+        && compactor <= manifest.compactor
+        && manifest.writer <= manifest.number
+        && manifest.compactor <= manifest.number - manifest.writer
 }
 
 impl Manifests {
@@ -78,161 +76,109 @@ impl Manifests {
     pub fn first() -> Self
         ensures { result ≡ lay_manifests (first_manifest ∷ []) }
     {
-        let items = [zero(); MANIFESTS];
-        Manifests { count: 1, items }
+        Manifests {
+            count: 1,
+            items: [ZERO; MANIFESTS],
+        }
+    }
+
+    // The places that hold a kept manifest.
+    fn kept(&self) -> &[KeptManifest]
+        requires { self.now.count ≤ manifest_limit limits }
+        ensures { result.now ≡ take self.now.count self.now.items }
+    {
+        &self.items[..self.count]
     }
 
     // Whether the unused places are all zero, of any value.
+    #[tactic(auto, unfolding(crate::specs::Manifests::is_laid, rules::specs::Lists::conj))]
     pub fn is_laid(self) -> bool
         ensures { result ≡ is_laid self }
     {
-        let count = self.count;
-        if count == 0 {
-            return false;
-        }
-        if MANIFESTS < count {
-            return false;
-        }
-        if !self.lists_laid(count) {
-            return false;
-        }
-        self.rest_laid(count)
+        1 <= self.count && self.count <= MANIFESTS && self.lists_laid() && self.rest_laid()
     }
 
-    // Whether behind each of the first lists all is 0.
-    fn lists_laid(self, count: usize) -> bool
-        requires { count ≤ manifest_limit limits }
-        ensures { result ≡ all is_list_laid (take count self.items) }
+    // Whether behind each list all is 0.
+    fn lists_laid(&self) -> bool
+        requires { self.now.count ≤ manifest_limit limits }
+        ensures { result ≡ all is_list_laid (take self.now.count self.now.items) }
     {
-        let mut i: usize = 0;
-        while i < count {
-            let m = self.items[i];
-            let n = m.count;
-            let names = m.names;
-            if !rules::is_padded(n, &names) {
-                return false;
-            }
-            i += 1;
-        }
-        true
+        self.kept()
+            .iter()
+            .all(|kept| rules::is_padded(kept.count, &kept.names))
     }
 
-    // Whether the places from `count` on are all zero.
-    fn rest_laid(self, count: usize) -> bool
-        requires { count ≤ manifest_limit limits }
-        ensures { result ≡ all is_no_manifest (drop count self.items) }
+    // Whether the places behind the kept manifests are all zero.
+    fn rest_laid(&self) -> bool
+        requires { self.now.count ≤ manifest_limit limits }
+        ensures { result ≡ all is_no_manifest (drop self.now.count self.now.items) }
     {
-        let mut i = count;
-        while i < MANIFESTS {
-            let m = self.items[i];
-            if !is_no_manifest(m) {
-                return false;
-            }
-            i += 1;
-        }
-        true
+        self.items[self.count..].iter().all(is_no_manifest)
     }
 
-    // Whether numbers rise, the two epochs of each add to at most its number, and neither falls. No sum may wrap.
+    // Whether numbers rise, the two epochs of each add to at most its number, and neither falls. No sum may wrap. The first may
+    // have any number.
+    #[tactic(auto, using(crate::proofs::Places::few, crate::proofs::Places::some))]
     pub fn is_ordered(self) -> bool
         requires { is_laid self ≡ true }
         ensures { result ≡ ordered 0 0 0 (manifests_of self) }
     {
-        let count = self.count;
-        let mut writer: u64 = 0;
-        let mut compactor: u64 = 0;
-        let mut last: u64 = 0;
-        let mut i: usize = 0;
-        while i < count {
-            let m = self.items[i];
-            if 0 < i {
-                if m.number <= last {
-                    return false;
-                }
-            }
-            if !follows(m, writer, compactor) {
-                return false;
-            }
-            last = m.number;
-            writer = m.writer;
-            compactor = m.compactor;
-            i += 1;
-        }
-        true
+        let kept = self.kept();
+        follows(&kept[0], 0, 0)
+            && kept.iter().zip(&kept[1..]).all(|(before, next)| before.number < next.number
+                && follows(next, before.writer, before.compactor))
     }
 
     // Whether a hold names each manifest but the current one.
+    #[tactic(auto, using(crate::proofs::Places::few, crate::proofs::Places::some))]
     pub fn older_held(self, holds: Holds) -> bool
         requires { (is_laid self ≡ true) × (holds.count ≤ limits.holds) }
         ensures { result ≡ all (held_by (holds_of holds)) (older_of self) }
     {
-        let older = self.count - 1;
-        let mut i: usize = 0;
-        while i < older {
-            let m = self.items[i];
-            if !holds.names_manifest(m.number) {
-                return false;
-            }
-            i += 1;
-        }
-        true
+        self.items[..self.count - 1]
+            .iter()
+            .all(|older| holds.names_manifest(older.number))
     }
 
     // Whether a kept manifest has this number.
+    #[tactic(auto, using(crate::proofs::Places::few))]
     pub fn has_number(self, number: u64) -> bool
         requires { is_laid self ≡ true }
         ensures { result ≡ has_number (manifests_of self) number }
     {
-        let count = self.count;
-        let mut i: usize = 0;
-        while i < count {
-            let m = self.items[i];
-            if m.number == number {
-                return true;
-            }
-            i += 1;
-        }
-        false
+        self.kept().iter().any(|kept| number == kept.number)
     }
 
     // The kept manifest of this number; where there is none, manifest 0 with an empty list.
+    #[tactic(auto, using(crate::proofs::Places::few))]
     pub fn numbered(self, number: u64) -> KeptManifest
         requires { is_laid self ≡ true }
         ensures { result ≡ lay_manifest (numbered (manifests_of self) number) }
     {
-        let count = self.count;
-        let mut i: usize = 0;
-        while i < count {
-            let m = self.items[i];
-            if m.number == number {
-                return m;
-            }
-            i += 1;
-        }
-        zero()
+        self.kept()
+            .iter()
+            .find(|kept| number == kept.number)
+            .copied()
+            .unwrap_or(ZERO)
     }
 
     // The current manifest is the last.
+    #[tactic(auto, using(crate::proofs::Places::few, crate::proofs::Places::some))]
     pub fn current(self) -> KeptManifest
         requires { is_laid self ≡ true }
         ensures { result ≡ current_of self }
     {
-        let last = self.count - 1;
-        self.items[last]
+        self.items[self.count - 1]
     }
 
     // The names in the places of the manifests, and how many each has. Whoever tests many objects lends them, and copies no manifest.
+    // stays: two loops: `from_fn` was tried, and the proof did not close, for it learns nothing of an array that a closure returns.
     pub fn names(self) -> [[u64; NAMES]; MANIFESTS]
         ensures { result ≡ names_at self.items }
     {
-        let none = [0u64; NAMES];
-        let mut names = [none; MANIFESTS];
-        let mut i: usize = 0;
-        while i < MANIFESTS {
-            let m = self.items[i];
-            let list = m.names;
-            names[i] = list;
-            i += 1;
+        let mut names = [[0; NAMES]; MANIFESTS];
+        for (i, manifest) in self.items.iter().enumerate() {
+            names[i] = manifest.names;
         }
         names
     }
@@ -240,35 +186,28 @@ impl Manifests {
     pub fn counts(self) -> [usize; MANIFESTS]
         ensures { result ≡ counts_at self.items }
     {
-        let mut counts = [0usize; MANIFESTS];
-        let mut i: usize = 0;
-        while i < MANIFESTS {
-            let m = self.items[i];
-            counts[i] = m.count;
-            i += 1;
+        let mut counts = [0; MANIFESTS];
+        for (i, manifest) in self.items.iter().enumerate() {
+            counts[i] = manifest.count;
         }
         counts
     }
 
     // Of the first n manifests those that a hold names, and behind them `last`, which is then current.
+    #[tactic(auto, using(crate::proofs::Places::few))]
     pub fn repacked(self, n: usize, holds: Holds, last: KeptManifest) -> Self
         requires { Repackable self n holds last }
         ensures { result ≡ lay_manifests (keep (held_by (holds_of holds)) (map manifest_of (take n self.items)) ++ (manifest_of last ∷ [])) }
     {
-        let mut items = [zero(); MANIFESTS];
-        let mut k: usize = 0;
-        let mut i: usize = 0;
-        while i < n {
-            let m = self.items[i];
-            if holds.names_manifest(m.number) {
-                items[k] = m;
-                k += 1;
-            }
-            i += 1;
-        }
-        items[k] = last;
+        let mut items = [ZERO; MANIFESTS];
+        let count = arrays::pack(
+            &self.items[..n],
+            |kept| holds.names_manifest(kept.number),
+            &mut items,
+        );
+        items[count] = last;
         Manifests {
-            count: k + 1,
+            count: count + 1,
             items,
         }
     }
@@ -276,16 +215,17 @@ impl Manifests {
 
 // Whether one of these lists names the object, and how many names of each were read to tell, counted where they are read.
 // A sound list rises, so it is searched by halves; the loops are left by the label once the object is found.
+// stays: nested loops left by a label: a rule of the project (docs/DECISIONS.md, "Forms").
+// stays: low and high in place of `binary_search`: `reach_of` promises how many names are read.
 pub fn reaches(names: &[[u64; NAMES]], counts: &[usize], object: u64) -> Reach
     requires { Searchable names.now counts.now }
     ensures { result ≡ reach_of (lists_in names.now counts.now) object }
 {
     let mut found = false;
-    let mut reads = [0usize; MANIFESTS];
-    let mut i: usize = 0;
-    'all: while i < counts.len() {
-        let mut low: usize = 0;
-        let mut high = counts[i];
+    let mut reads = [0; MANIFESTS];
+    'all: for (i, count) in counts.iter().enumerate() {
+        let mut low = 0;
+        let mut high = *count;
         while low < high {
             let middle = low + (high - low) / 2;
             let name = names[i][middle];
@@ -300,24 +240,6 @@ pub fn reaches(names: &[[u64; NAMES]], counts: &[usize], object: u64) -> Reach
                 high = middle;
             }
         }
-        i += 1;
     }
     Reach { found, reads }
-}
-
-// Whether the two epochs add to at most the number, and neither is below the one before.
-fn follows(manifest: KeptManifest, writer: u64, compactor: u64) -> bool
-    ensures { result ≡ epochs_follow writer compactor (manifest_of manifest) }
-{
-    let number = manifest.number;
-    if manifest.writer < writer {
-        return false;
-    }
-    if manifest.compactor < compactor {
-        return false;
-    }
-    if number < manifest.writer {
-        return false;
-    }
-    manifest.compactor <= number - manifest.writer
 }

@@ -17,8 +17,7 @@ use Rattle.fields.proofs.Bytes.{length-be, length-words}
 use Rattle.fields.proofs.Fields.{length-field}
 use Rattle.rules.specs.Limits.{limits}
 use Rattle.records.specs.declared.Field.{Field}
-use Rattle.records.specs.Format.{content, bytes_of}
-use Rattle.records.specs.Found.{is_narrow}
+use Rattle.records.specs.Format.{is_narrow, content, bytes_of}
 use Rattle.records.specs.Writing.{writing}
 
 -- ---- a field's value

@@ -5,8 +5,7 @@ use mathlib.Core.Bool.{Bool, true, false}
 use mathlib.Core.List.{List, [], ◌∷◌, ◌++◌}
 use Prim.Native.Nat.{ℕ, zero, suc, ◌<◌}
 use native.Mathlib.Omega.{arith}
-use lib.ListN.{length, get_or, take, replicate, length-take}
-use lib.Seq.{get_or-take}
+use lib.ListN.{length, get_or, replicate}
 use borrow.Author.Tests.{ne_eqb}
 use Rattle.rules.specs.Lists.{all, none}
 use Rattle.rules.proofs.Lists.{and_left, and_right}
@@ -18,12 +17,6 @@ module _ {A : Type 0} (p : A → Bool) where
   all-at [] i d e h = absurd (omega arith)
   all-at (x ∷ xs) zero d e h = and_left (p x) (all p xs) e
   all-at (x ∷ xs) (suc i) d e h = all-at xs i d (and_right (p x) (all p xs) e) (omega arith)
-
-  -- of the first places too
-  pub all-taken : (l : List A) (n i : ℕ) (d : A) → all p l ≡ true → i < length (take n l) → p (get_or (take n l) i d) ≡ true
-  all-taken l n i d e h =
-      let inside : i < n = omega (arith, simp length-take at h) in
-      rw get_or-take (all-at l i d e (omega (arith, simp length-take at h)))
 
 -- past the zeros there are zeros too
 pub zeros_get : (k i : ℕ) → ◌≡◌ {A = ℕ} (get_or (replicate k 0) i 0) 0

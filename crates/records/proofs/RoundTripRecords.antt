@@ -16,8 +16,8 @@ use Rattle.rules.specs.Lists.{conj, all, none, rising_above}
 use Rattle.rules.specs.Limits.{limits}
 use Rattle.rules.proofs.Lists.{and_left, and_right, and_both, conj-true}
 use Rattle.records.specs.declared.Field.{Field}
-use Rattle.records.specs.Format.{inner, bytes_of, record_of}
-use Rattle.records.specs.Found.{is_narrow, is_whole}
+use Rattle.records.specs.Format.{inner, is_narrow, bytes_of, record_of}
+use Rattle.records.specs.Found.{is_whole}
 use Rattle.records.specs.Walk.{Walked, Found, Broken, walk}
 use Rattle.records.specs.RoundTrip.{fits, all_fit, are_bytes}
 use Rattle.records.proofs.Places.{all-at}

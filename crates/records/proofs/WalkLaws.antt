@@ -19,8 +19,7 @@ use Rattle.rules.specs.Lists.{all, any}
 use Rattle.rules.specs.Limits.{limits}
 use Rattle.rules.proofs.Lists.{and_left, and_right, and_both, or_left, or_right, true-false}
 use Rattle.records.specs.declared.Field.{Field}
-use Rattle.records.specs.Format.{inner, content, bytes_of}
-use Rattle.records.specs.Found.{is_narrow}
+use Rattle.records.specs.Format.{inner, is_narrow, content, bytes_of}
 use Rattle.records.specs.Walk.{Walked, Found, Broken, number_then, list_then, head_then, field_then, walk}
 use Rattle.records.specs.RoundTrip.{fits}
 use Rattle.records.proofs.Pieces.{content-short}

@@ -1,16 +1,19 @@
 -- The format of a record as data (document 01, "Records and names"): a field whose value holds inner fields. One table serves reading, writing and the proofs.
 -- Assumes nothing.
-use Rattle.std.specs.Prelude.{cond, List, [], ◌∷◌, ◌++◌, ℕ, ◌-◌, eqb, length, replicate}
+use Rattle.std.specs.Prelude.{Bool, cond, List, [], ◌∷◌, ◌++◌, ℕ, leb, eqb}
 use Rattle.fields.specs.Bytes.{be, words}
 use Rattle.fields.specs.Fields.{field}
 use Rattle.rules.specs.declared.Role.{Role}
 use Rattle.rules.specs.declared.Role.TheVariants.{Writer, Compactor}
 use Rattle.records.specs.declared.Field.{Field}
-use Rattle.records.specs.declared.Fields.{Fields}
 
 -- an inner field: its tag and its number in so many bytes; width 0 is the list that stands beside the fields, eight bytes for each number
 abbrev pub inner : ℕ → ℕ → ℕ → Field
 inner tag width number = record { tag = tag; width = width; number = number }
+
+-- a number has at most eight bytes
+abbrev pub is_narrow : Field → Bool
+is_narrow f = leb f.width 8
 
 -- "00 code (1 byte), 01 time (8), 02 role (1: 0 writer, 1 compactor), 03 epoch (8), 04 slot (8), 05 object (8), 06 currency (2), 07 list (8 each),
 -- 08 hold (8), 09 manifest (8), 0A expiry (8)"
@@ -67,7 +70,3 @@ record_of tag fs l = field tag (bytes_of fs l)
 -- how many inner fields a record has at most
 abbrev pub most_fields : ℕ
 most_fields = 6
-
--- fields in their places
-abbrev pub in_places : List Field → Fields
-in_places fs = record { count = length fs; items = fs ++ replicate (most_fields - length fs) (inner 0 0 0) }

@@ -1,11 +1,10 @@
 -- What the code keeps of a record, said by the definitions in Format.antt and Walk.antt: fields in their places, the field at the front of some bytes, and
 -- what a walk found, with its numbers in their places.
 -- Assumes nothing.
-use Rattle.std.specs.Prelude.{Option, Some, None, ◌≡◌, Bool, true, cond, ◌&&◌, List, ◌++◌, ℕ, ◌-◌, ◌/◌, ◌%◌, ◌≤◌, leb, eqb, length, take, drop, replicate}
+use Rattle.std.specs.Prelude.{Option, Some, None, Bool, cond, ◌&&◌, List, ◌++◌, ℕ, ◌-◌, ◌/◌, ◌%◌, leb, eqb, length, take, drop, replicate}
 use Rattle.std.specs.Option.{option_or}
 use Rattle.fields.specs.Bytes.{value_of, kept64, words_of}
 use Rattle.fields.specs.Fields.{head_of, claimed}
-use Rattle.rules.specs.Lists.{all}
 use Rattle.records.specs.declared.Field.{Field}
 use Rattle.records.specs.declared.Fields.{Fields}
 use Rattle.records.specs.declared.Held.{Held}
@@ -14,19 +13,9 @@ use Rattle.records.specs.declared.Walk.{Walk}
 use Rattle.records.specs.Format.{most_fields}
 use Rattle.records.specs.Walk.{Walked, Found, Broken}
 
--- the fields that stand in these places
+-- the fields that stand in the first places
 abbrev pub fields_in : Fields → List Field
 fields_in p = take p.count p.items
-
--- a number has at most eight bytes
-abbrev pub is_narrow : Field → Bool
-is_narrow f = leb f.width 8
-
--- as many places as a record has fields at most, and no more fields
-pub record Placed (p : Fields) : Type 0 where
-  pub places : length p.items ≡ most_fields
-  pub within : p.count ≤ most_fields
-  pub narrow : all is_narrow p.items ≡ true
 
 -- bytes that are one field and nothing behind it
 abbrev pub is_whole : List ℕ → Bool

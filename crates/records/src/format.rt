@@ -1,6 +1,8 @@
 // The inner fields of records: the table of their tags, and a record's fields in their places.
-ghost use Rattle.std.specs.Prelude.{◌≡◌, ◌≤◌};
-ghost use Rattle.records.specs.Format.{inner, role_code, in_places};
+ghost use Rattle.std.specs.Prelude.{◌≡◌, ◌≤◌, true};
+ghost use Rattle.rules.specs.Lists.{all};
+ghost use Rattle.records.specs.Format.{inner, is_narrow, role_code};
+ghost use Rattle.records.specs.Found.{fields_in};
 
 use crate::{FIELDS, Field, Fields};
 use rules::Role;
@@ -56,15 +58,16 @@ pub fn role_number(who: Role) -> u64
 
 // A record of these fields.
 pub fn fields_of<const N: usize>(first: [Field; N]) -> Fields
-    requires { N ≤ FIELDS }
-    ensures { result ≡ in_places first.entry }
+    requires few { N ≤ FIELDS }
+    requires narrow { all is_narrow first ≡ true }
+    ensures { fields_in result ≡ first.entry }
 {
-    let none = Field {
+    let blank = Field {
         tag: 0,
         width: 0,
         number: 0,
     };
-    let mut items = [none; FIELDS];
+    let mut items = [blank; FIELDS];
     items[..N].copy_from_slice(&first);
     Fields { count: N, items }
 }

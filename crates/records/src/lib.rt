@@ -1,6 +1,10 @@
 // Step records, and what any record is made of (document 01, "Records and names"): read and written, each undoing the other.
 #![tactic(auto)]
 
+ghost use Rattle.std.specs.Prelude.{◌≡◌, ◌≤◌, true, take};
+ghost use Rattle.rules.specs.Lists.{all};
+ghost use Rattle.records.specs.Format.{is_narrow, most_fields};
+
 mod format;
 mod steps;
 mod walking;
@@ -25,12 +29,14 @@ pub struct Field {
     pub number: u64,
 }
 
-// The inner fields of a record: the first `count` places; the others are 0.
-// stays: `Placed`, which `walk` and `write_record` require, speaks of the count and every place (no heap, fixed memory).
+// The inner fields of a record: those in the first `count` places. Each number has at most eight bytes.
+// stays: a count beside the places, since there is no heap and memory is fixed.
 #[derive(Clone, Copy)]
 pub struct Fields {
-    pub count: usize,
-    pub items: [Field; FIELDS],
+    count: usize,
+    items: [Field; FIELDS],
+    ghost few: { count ≤ most_fields },
+    ghost narrow: { all is_narrow (take count items) ≡ true },
 }
 
 // The field at the front of some bytes: its length, and its number, 0 of the list.

@@ -1,7 +1,6 @@
 // Step records.
 ghost use Rattle.std.specs.Prelude.{◌≡◌, ◌+◌, ◌*◌, ◌≤◌, length};
-ghost use Rattle.records.specs.Format.{in_places};
-ghost use Rattle.records.specs.Found.{found_by};
+ghost use Rattle.records.specs.Found.{fields_in, found_by};
 ghost use Rattle.records.specs.Steps.{outer_tag, fields_of, role_of, kind_from, request_of_walk, decode_step, step_read};
 ghost use Rattle.records.specs.Writing.{step_writing};
 
@@ -32,8 +31,9 @@ fn outer_tag(kind: Kind) -> u8
     }
 }
 
+#[tactic(auto, unfolding(rules::specs::Lists::all))]
 fn step_fields(at: u64, kind: Kind) -> Fields
-    ensures { result ≡ in_places (fields_of at kind) }
+    ensures { fields_in result ≡ fields_of at kind }
 {
     let t = TIME.of(at);
     match kind {

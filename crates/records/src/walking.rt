@@ -1,7 +1,7 @@
 // The reader's walk over the inner fields of a record, in place.
 ghost use Rattle.std.specs.Prelude.{◌≡◌, ◌+◌, ◌*◌, ◌≤◌, length, IfSome};
 ghost use Rattle.records.specs.Walk.{walk as walkOver};
-ghost use Rattle.records.specs.Found.{fields_in, Placed, is_whole, held, first_list, found_by, placed_all};
+ghost use Rattle.records.specs.Found.{fields_in, is_whole, held, first_list, found_by, placed_all};
 
 use crate::{FIELDS, Field, Fields, Held, Place, Walk};
 use fields::Next;
@@ -48,7 +48,6 @@ fn first_list(found: Option<Place>, width: usize, at: usize, len: usize) -> Opti
 
 // A number for each field, and where the list stands; or that the bytes are not just these fields.
 pub fn walk(bytes: &[u8], fields: Fields) -> Option<Walk>
-    requires { Placed fields }
     ensures found { found_by result bytes.now ≡ placed_all (walkOver (fields_in fields) bytes.now) }
     ensures room { IfSome result (λ w. w.list.at + 8 * w.list.count ≤ length bytes.now) }
 {

@@ -3,7 +3,7 @@ ghost use Rattle.std.specs.Prelude.{◌≡◌, true, ◌≤◌, ◌<◌, length}
 ghost use Rattle.fields.specs.Fields.{field};
 ghost use Rattle.rules.specs.Limits.{limits};
 ghost use Rattle.records.specs.Format.{content, bytes_of, record_of};
-ghost use Rattle.records.specs.Found.{fields_in, Placed};
+ghost use Rattle.records.specs.Found.{fields_in};
 ghost use Rattle.records.specs.Writing.{writing};
 
 use crate::{Field, Fields, WriteError};
@@ -21,7 +21,7 @@ fn content_size(f: Field, list: &[u64]) -> usize
 
 // The length of all the fields.
 fn size_of(fields: Fields, list: &[u64]) -> usize
-    requires { Placed fields × (length list.now ≤ limits.places) }
+    requires { length list.now ≤ limits.places }
     ensures { (result ≡ length (bytes_of (fields_in fields) list.now)) × (result < 65536) }
 {
     let mut size = 0;
@@ -46,7 +46,7 @@ fn put_field(f: Field, list: &[u64], out: &mut [u8])
 
 // Fills the slice with the fields, one behind the other.
 fn put_fields(fields: Fields, list: &[u64], out: &mut [u8])
-    requires { Placed fields × (length (bytes_of (fields_in fields) list.now) ≡ length out.old) }
+    requires { length (bytes_of (fields_in fields) list.now) ≡ length out.old }
     ensures { out.new ≡ bytes_of (fields_in fields) list.now }
 {
     let mut at = 0;
@@ -64,7 +64,7 @@ pub fn write_record(
     list: &[u64],
     out: &mut [u8],
 ) -> Result<usize, WriteError>
-    requires { Placed fields × (length list.now ≤ limits.places) }
+    requires { length list.now ≤ limits.places }
     ensures { writing true (record_of tag (fields_in fields) list.now) out.old ≡ record { answer = result; buffer = out.new } }
 {
     let size = size_of(fields, list);

@@ -1,6 +1,6 @@
 -- The step that was read from a record asks what the record's bytes say.
 -- Assumes nothing.
-use mathlib.Core.Path.{◌≡◌, refl, sym, ap}
+use mathlib.Core.Path.{◌≡◌, refl, sym, ap, ◌∙◌}
 use mathlib.Core.Logic.{⊎_elim}
 use mathlib.Core.Bool.{Bool, true, false, cond, ◌&&◌, false≢true}
 use mathlib.Core.List.{List}
@@ -16,10 +16,10 @@ use Rattle.rules.specs.Request.{Request, Asked, Unreadable}
 use Rattle.rules.specs.Typed.{request_of}
 use Rattle.rules.proofs.Lists.{decide, true-false}
 use Rattle.rules.proofs.Typed.{list-asks}
-use Rattle.records.specs.declared.Reading.{Reading}
-use Rattle.records.specs.declared.Reading.TheVariants.{Read, Malformed}
-use Rattle.records.specs.declared.KindRead.{KindRead}
-use Rattle.records.specs.declared.KindRead.TheVariants.{Known, Unknown}
+use Rattle.rules.specs.declared.Step.{Step}
+use Rattle.std.specs.Prelude.{Option, Some, None}
+use Rattle.std.proofs.lemmas.Option.{none-some}
+use Rattle.std.specs.Option.{unwrap_or}
 use Rattle.records.specs.Format.{most_fields}
 use Rattle.records.specs.Walk.{Walked, Found, Broken, walk}
 use Rattle.records.specs.Steps.{fields_of, kind_from, formed, request_from, request_of_walk, request_of_tag, decode_step, step_read}
@@ -49,37 +49,34 @@ decoded_fits : (bs : List ℕ) → Fits (decode_step bs)
 unfolding decode_step
 decoded_fits bs = whole (leb 3 (length bs) && eqb (claimed bs) (length bs - 3)) (kind_from (get_or bs 0 0) (replicate most_fields 0))
   where
-    known : (v l : List ℕ) (k : KindRead) → Fits (request_from v l k)
-    known v l Unknown = tt
-    known v l (Known k) = formed-fits (Asked (get_or v 0 0) k l)
+    known : (v l : List ℕ) (k : Option Kind) → Fits (request_from v l k)
+    known v l None = tt
+    known v l (Some k) = formed-fits (Asked (get_or v 0 0) k l)
 
     walked : (tag : ℕ) (w : Walked) → Fits (request_of_walk tag w)
     walked tag Broken = tt
     walked tag (Found v l) = known v l (kind_from tag v)
 
-    tagged : (tag : ℕ) (value : List ℕ) (k : KindRead) → Fits (request_of_tag tag value k)
-    tagged tag value Unknown = tt
-    tagged tag value (Known k) = walked tag (walk (fields_of 0 k) value)
+    tagged : (tag : ℕ) (value : List ℕ) (k : Option Kind) → Fits (request_of_tag tag value k)
+    tagged tag value None = tt
+    tagged tag value (Some k) = walked tag (walk (fields_of 0 k) value)
 
-    whole : (b : Bool) (k : KindRead) → Fits (cond b (request_of_tag (get_or bs 0 0) (drop 3 bs) k) Unreadable)
+    whole : (b : Bool) (k : Option Kind) → Fits (cond b (request_of_tag (get_or bs 0 0) (drop 3 bs) k) Unreadable)
     whole true k = tagged (get_or bs 0 0) (drop 3 bs) k
     whole false k = tt
 
-abbrev is_read : Reading → Bool
-is_read Read = true
-is_read Malformed = false
-
+-- the step that was read
 module _ (l : Ledger) where
-  read-asks : (q : Request) → Fits q → (step_read q).reading ≡ Read → judged l (request_of (step_read q).step) ≡ judged l q
-  read-asks Unreadable f e = absurd (false≢true (ap is_read e))
-  read-asks (Asked t k names) f e = ap (judged l) (list-asks t k names f)
+  read-asks : (q : Request) (p : Step) → Fits q → step_read q ≡ Some p → judged l (request_of p) ≡ judged l q
+  read-asks Unreadable p f e = absurd (none-some p e)
+  read-asks (Asked t k names) p f e = ap (λ (r : Step). judged l (request_of r)) (sym (ap (λ (o : Option Step). unwrap_or o p) e)) ∙ ap (judged l) (list-asks t k names f)
 
-  refused-asks : (q : Request) → (step_read q).reading ≡ Malformed → judged l Unreadable ≡ judged l q
+  refused-asks : (q : Request) → step_read q ≡ None → judged l Unreadable ≡ judged l q
   refused-asks Unreadable e = refl
-  refused-asks (Asked t k names) e = absurd (false≢true (sym (ap is_read e)))
+  refused-asks (Asked t k names) e = absurd (none-some _ (sym e))
 
-  pub read-judged : (bs : List ℕ) → (step_read (decode_step bs)).reading ≡ Read → judged l (request_of (step_read (decode_step bs)).step) ≡ judged l (decode_step bs)
-  read-judged bs e = read-asks (decode_step bs) (decoded_fits bs) e
+  pub read_judged : (bs : List ℕ) (p : Step) → step_read (decode_step bs) ≡ Some p → judged l (request_of p) ≡ judged l (decode_step bs)
+  read_judged bs p e = read-asks (decode_step bs) p (decoded_fits bs) e
 
-  pub refused-judged : (bs : List ℕ) → (step_read (decode_step bs)).reading ≡ Malformed → judged l Unreadable ≡ judged l (decode_step bs)
-  refused-judged bs e = refused-asks (decode_step bs) e
+  pub refused_judged : (bs : List ℕ) → step_read (decode_step bs) ≡ None → judged l Unreadable ≡ judged l (decode_step bs)
+  refused_judged bs e = refused-asks (decode_step bs) e

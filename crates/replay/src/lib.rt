@@ -9,10 +9,10 @@ ghost use Rattle.replay.specs.Replay.{ending_at, replay_of};
 
 use fields::Next;
 use ledger::{Ledger, StepAnswer};
-use records::{Reading, Write};
 
 // What becomes of the front of a trace.
-#[derive(Clone, Copy)]
+// stays: four states, each told by its name to those who call; as a Result the end, which is no failure, would be an error.
+#[derive(Clone, Copy, PartialEq, Eq)]
 pub enum Front {
     // nothing is left
     End,
@@ -32,7 +32,7 @@ pub struct Stepped {
 }
 
 // How a run ends.
-#[derive(Clone, Copy)]
+#[derive(Clone, Copy, PartialEq, Eq)]
 pub enum Ending {
     Whole,
     Torn,
@@ -52,12 +52,9 @@ pub struct Ran {
 fn answer_to(ledger: Ledger, bytes: &[u8]) -> StepAnswer
     ensures { result ≡ judged ledger (decode_step bytes.now) }
 {
-    let read = records::read_step(bytes);
-    let reading = read.reading;
-    let step = read.step;
-    match reading {
-        Reading::Read => ledger.step(step),
-        Reading::Malformed => ledger.refuse_unreadable(),
+    match records::read_step(bytes) {
+        Some(step) => ledger.step(step),
+        None => ledger.refuse_unreadable(),
     }
 }
 
@@ -66,20 +63,19 @@ fn judge_record(before: Ledger, bytes: &[u8], out: &mut [u8]) -> Stepped
     ensures { record_step before bytes.now out.old ≡ record { answer = result; buffer = out.new } }
 {
     let answer = answer_to(before, bytes);
-    let verdict = answer.verdict;
-    let next = answer.ledger;
-    let read = bytes.len();
-    let write = verdicts::write_verdict(verdict, out);
     // a step's verdict is never malformed: it has no room
-    let Write::Written(written) = write else {
+    let Ok(written) = verdicts::write_verdict(answer.verdict, out) else {
         return Stepped {
             front: Front::Full,
             ledger: before,
         };
     };
     Stepped {
-        front: Front::Judged { read, written },
-        ledger: next,
+        front: Front::Judged {
+            read: bytes.len(),
+            written,
+        },
+        ledger: answer.ledger,
     }
 }
 
@@ -88,8 +84,7 @@ fn judge_record(before: Ledger, bytes: &[u8], out: &mut [u8]) -> Stepped
 pub fn step_record(ledger: Ledger, trace: &[u8], out: &mut [u8]) -> Stepped
     ensures { front_step ledger trace.now out.old ≡ record { answer = result; buffer = out.new } }
 {
-    let next = fields::next_record(trace);
-    match next {
+    match fields::next_record(trace) {
         Next::End => Stepped {
             front: Front::End,
             ledger,
@@ -107,10 +102,9 @@ fn ending_at(front: Front) -> Ending
     ensures { result ≡ ending_at front }
 {
     match front {
-        Front::End => Ending::Whole,
+        Front::End | Front::Judged { .. } => Ending::Whole,
         Front::Torn => Ending::Torn,
         Front::Full => Ending::Full,
-        Front::Judged { .. } => Ending::Whole,
     }
 }
 
@@ -124,15 +118,13 @@ pub fn run(ledger: Ledger, trace: &[u8], out: &mut [u8]) -> Ran
     loop {
         let stepped = step_record(ledger, &trace[read..], &mut out[written..]);
         ledger = stepped.ledger;
-        let front = stepped.front;
         let Front::Judged {
             read: n,
             written: k,
-        } = front
+        } = stepped.front
         else {
-            let ending = ending_at(front);
             return Ran {
-                ending,
+                ending: ending_at(stepped.front),
                 ledger,
                 read,
                 written,

@@ -2,6 +2,7 @@ pub mod Lists
 pub mod Listed
 pub mod Numbers
 pub mod Table
+pub mod Refusals
 pub mod LastManifest
 pub mod Agreement
 pub mod Settle

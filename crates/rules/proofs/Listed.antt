@@ -7,17 +7,17 @@ use Rattle.std.specs.List.{list_any, list_all, filter}
 use Rattle.rules.specs.Lists.{any, all, keep}
 
 module _ {A : Type 0} (p : A → Bool) where
-  pub any-listed : (xs : List A) → list_any p xs ≡ any p xs
+  pub any_listed : (xs : List A) → list_any p xs ≡ any p xs
   unfolding any
-  any-listed [] = refl
-  any-listed (x ∷ xs) = ap (λ (b : Bool). p x || b) (any-listed xs)
+  any_listed [] = refl
+  any_listed (x ∷ xs) = ap (λ (b : Bool). p x || b) (any_listed xs)
 
-  pub all-listed : (xs : List A) → list_all p xs ≡ all p xs
+  pub all_listed : (xs : List A) → list_all p xs ≡ all p xs
   unfolding all
-  all-listed [] = refl
-  all-listed (x ∷ xs) = ap (λ (b : Bool). p x && b) (all-listed xs)
+  all_listed [] = refl
+  all_listed (x ∷ xs) = ap (λ (b : Bool). p x && b) (all_listed xs)
 
-  pub keep-listed : (xs : List A) → filter p xs ≡ keep p xs
+  pub keep_listed : (xs : List A) → filter p xs ≡ keep p xs
   unfolding keep
-  keep-listed [] = refl
-  keep-listed (x ∷ xs) = ap (λ (ys : List A). cond (p x) (x ∷ ys) ys) (keep-listed xs)
+  keep_listed [] = refl
+  keep_listed (x ∷ xs) = ap (λ (ys : List A). cond (p x) (x ∷ ys) ys) (keep_listed xs)

@@ -3,6 +3,7 @@ pub mod Limits
 pub mod State
 pub mod Words
 pub mod Table
+pub mod Refusals
 pub mod Sound
 pub mod Request
 pub mod Step

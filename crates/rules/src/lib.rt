@@ -5,13 +5,13 @@
 
 mod rows;
 
-ghost use Rattle.std.specs.Prelude.{◌≡◌, [], ◌∷◌};
-ghost use Rattle.rules.specs.Lists.{conj, rising_above};
+ghost use Rattle.std.specs.Prelude.{◌≡◌};
+ghost use Rattle.rules.specs.Lists.{rising_above};
 ghost use Rattle.rules.specs.Limits.{limits};
 ghost use Rattle.rules.specs.Table.{expiry_fits, well_formed};
 ghost use Rattle.rules.specs.Typed.{is_padded, request_of, can_say};
 
-pub use rows::{epoch_row, fence_row, slot_row};
+pub use rows::{Refusal, epoch_row, fence_row, slot_row};
 
 // The limits of documents 01 and 02, each named once: the bits of an occupancy word and the words, so the objects stored;
 // object numbers in a manifest; holds; kept manifests (each but the current one is held); the largest number of a currency.
@@ -30,14 +30,14 @@ pub const MANIFESTS: usize = HOLDS + 1;
 pub const LARGEST_CURRENCY: u16 = 999;
 
 // Who writes: the writer of sheets and batches, or the compactor that merges them.
-#[derive(Clone, Copy)]
+#[derive(Clone, Copy, PartialEq, Eq)]
 pub enum Role {
-    Writer,
-    Compactor,
+    Writer = 0,
+    Compactor = 1,
 }
 
 // What a step asks. COMMIT's list stands beside it, in the step.
-#[derive(Clone, Copy)]
+#[derive(Clone, Copy, PartialEq, Eq)]
 pub enum Kind {
     Fence {
         role: Role,
@@ -96,7 +96,7 @@ pub struct Step {
 }
 
 // What a step is answered. Listed and Collected have a list beside them.
-#[derive(Clone, Copy)]
+#[derive(Clone, Copy, PartialEq, Eq)]
 pub enum Answer {
     // turned away, with the number of the refusal table
     Refused(u8),
@@ -126,7 +126,7 @@ pub struct Verdict {
 }
 
 // A stored object. A free place is the one whose fields are all zero.
-#[derive(Clone, Copy)]
+#[derive(Clone, Copy, PartialEq, Eq)]
 pub struct Object {
     pub number: u64,
     pub role: Role,
@@ -138,7 +138,7 @@ pub struct Object {
 }
 
 // A hold keeps a manifest until it expires (a snapshot in source document 000). Expiry 0 is never.
-#[derive(Clone, Copy)]
+#[derive(Clone, Copy, PartialEq, Eq)]
 pub struct Hold {
     pub number: u64,
     pub manifest: u64,
@@ -146,35 +146,24 @@ pub struct Hold {
 }
 
 // Whether the first `count` places say a list: there are that many, and the others are 0.
+#[tactic(auto, unfolding(crate::specs::Typed::is_padded))]
 pub fn is_padded(count: usize, places: &[u64]) -> bool
     ensures { result ≡ is_padded count places.now }
 {
-    if places.len() < count {
-        return false;
-    }
-    let mut i = count;
-    while i < places.len() {
-        if places[i] != 0 {
-            return false;
-        }
-        i += 1;
-    }
-    true
+    count <= places.len() && places[count..].iter().all(|place| 0 == *place)
 }
 
 // Whether the numbers rise strictly from above 0.
+#[tactic(auto, unfolding(crate::specs::Lists::rising_above))]
 pub fn is_rising(list: &[u64]) -> bool
     ensures { result ≡ rising_above 0 list.now }
 {
     let mut floor: u64 = 0;
-    let mut i = 0;
-    while i < list.len() {
-        let n = list[i];
-        if n <= floor {
+    for n in list {
+        if *n <= floor {
             return false;
         }
-        floor = n;
-        i += 1;
+        floor = *n;
     }
     true
 }
@@ -183,70 +172,37 @@ pub fn is_rising(list: &[u64]) -> bool
 fn expiry_fits(time: u64, expiry: u64) -> bool
     ensures { result ≡ expiry_fits time expiry }
 {
-    if expiry == 0 {
-        return true;
-    }
-    time <= expiry
-}
-
-fn all_three(a: bool, b: bool, c: bool) -> bool
-    ensures { result ≡ conj (a ∷ b ∷ c ∷ []) }
-{
-    if !a {
-        return false;
-    }
-    if !b {
-        return false;
-    }
-    c
+    expiry == 0 || time <= expiry
 }
 
 // Whether a record can say the kind with this list beside it. Only COMMIT has a list.
+#[tactic(auto, using(crate::proofs::Typed::length_none), unfolding(crate::specs::Table::well_formed, crate::specs::Lists::conj))]
 fn is_formed(time: u64, kind: Kind, list: &[u64]) -> bool
     ensures { result ≡ well_formed limits time kind list.now }
 {
-    let none = list.len() == 0;
+    let none = list.is_empty();
     match kind {
-        Kind::Fence { role: _, slot: _ } => none,
+        Kind::Fence { .. } | Kind::List { .. } | Kind::Collect => none,
         Kind::Put {
-            role: _,
-            epoch: _,
             object,
             currency,
-        } => all_three(none, object != 0, currency <= LARGEST_CURRENCY),
-        Kind::Commit { epoch: _, slot: _ } => all_three(is_rising(list), list.len() <= NAMES, true),
-        Kind::Compact {
-            epoch: _,
-            slot: _,
-            object,
-        } => all_three(none, object != 0, true),
-        Kind::Hold {
-            hold,
-            manifest: _,
-            expiry,
-        } => all_three(none, hold != 0, expiry_fits(time, expiry)),
-        Kind::Renew { hold, expiry } => all_three(none, hold != 0, expiry_fits(time, expiry)),
-        Kind::Release { hold } => all_three(none, hold != 0, true),
-        Kind::List { hold: _ } => none,
-        Kind::Look { currency, hold: _ } => all_three(
-            none,
-            currency != 0,
-            currency <= LARGEST_CURRENCY,
-        ),
-        Kind::Collect => none,
+            ..
+        } => none && object != 0 && currency <= LARGEST_CURRENCY,
+        Kind::Commit { .. } => is_rising(list) && list.len() <= NAMES,
+        Kind::Compact { object, .. } => none && object != 0,
+        Kind::Hold { hold, expiry, .. } | Kind::Renew { hold, expiry } => {
+            none && hold != 0 && expiry_fits(time, expiry)
+        }
+        Kind::Release { hold } => none && hold != 0,
+        Kind::Look { currency, .. } => none && currency != 0 && currency <= LARGEST_CURRENCY,
     }
 }
 
 // Whether a step is one that a record can say: row 2 of the refusal table does not apply.
+
 pub fn is_well_formed(step: Step) -> bool
     ensures { result ≡ can_say (request_of step) }
 {
     let list = step.list;
-    let count = list.count;
-    let names = list.names;
-    if !is_padded(count, &names) {
-        return false;
-    }
-    let kind = step.kind;
-    is_formed(step.time, kind, &names[..count])
+    is_padded(list.count, &list.names) && is_formed(step.time, step.kind, &list.names[..list.count])
 }

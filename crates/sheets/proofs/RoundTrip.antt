@@ -1,5 +1,6 @@
 -- Reading and writing sheets undo each other, and all else is refused: the laws of every record, at the fields of a sheet.
 -- Assumes nothing.
+use Rattle.std.proofs.Common.{Option, Some, None}
 use mathlib.Core.Path.{◌≡◌, refl, subst}
 use mathlib.Core.Bool.{true, ◌&&◌}
 use mathlib.Core.List.{List, []}
@@ -19,8 +20,6 @@ use Rattle.records.specs.RoundTrip.{fits, all_fit, are_bytes}
 use Rattle.records.proofs.WalkLaws.{total, length-bytes, single, filled_from, filled}
 use Rattle.records.proofs.RoundTripRecords.{picked, fields_fit, fit_at, is_tidy, record_written, RewritesBy, record_read, rewrites_as}
 use Rattle.sheets.specs.declared.Sheet.{Sheet}
-use Rattle.sheets.specs.declared.SheetRead.{SheetRead}
-use Rattle.sheets.specs.declared.SheetRead.TheVariants.{Read, Malformed}
 use Rattle.sheets.specs.Sheets.{sheet_tag, sheet_fields, sheet_formed, encode_sheet, sheet_from, blank_sheet, sheet_of_walk, decode_sheet}
 use Rattle.sheets.specs.RoundTrip.{SheetRoundTrip}
 use Rattle.sheets.proofs.Reading.{decode-whole}
@@ -31,7 +30,7 @@ tidy s = refl
 
 -- ---- reading what was written
 
-reads_written_lem : (s : Sheet) → sheet_formed s ≡ true → all_fit (sheet_fields s) [] ≡ true → decode_sheet (encode_sheet s) ≡ Read s
+reads_written_lem : (s : Sheet) → sheet_formed s ≡ true → all_fit (sheet_fields s) [] ≡ true → decode_sheet (encode_sheet s) ≡ Some s
 unfolding any
 reads_written_lem s well fit =
     let w = record_written sheet_tag (sheet_fields s) [] (tidy s) fit (lit≤ tt, refl) in
@@ -41,9 +40,9 @@ reads_written_lem s well fit =
 -- ---- writing what was read
 
 -- what bytes are read as is well formed, fits, and is written as the bytes
-abbrev WrittenAs : List ℕ → SheetRead → Type 0
-WrittenAs bs Malformed = Unit {0}
-WrittenAs bs (Read s) = (sheet_formed s ≡ true) × (all_fit (sheet_fields s) [] ≡ true) × (encode_sheet s ≡ bs)
+abbrev WrittenAs : List ℕ → Option Sheet → Type 0
+WrittenAs bs None = Unit {0}
+WrittenAs bs (Some s) = (sheet_formed s ≡ true) × (all_fit (sheet_fields s) [] ≡ true) × (encode_sheet s ≡ bs)
 
 -- the fields of a sheet that was read have the numbers read
 sheet_read : (v : List ℕ) → all fits (filled (sheet_fields blank_sheet) v) ≡ true → filled (sheet_fields blank_sheet) v ≡ sheet_fields (sheet_from v)
@@ -57,28 +56,28 @@ module _ (bs : List ℕ) (tag : get_or bs 0 0 ≡ sheet_tag) where
   walked Broken u = tt
   walked (Found v l) u =
       let r = rewrites_as bs l (filled (sheet_fields blank_sheet) v) (sheet_fields (sheet_from v)) u (sheet_read v) in
-      picked (WrittenAs bs) (sheet_formed (sheet_from v)) (Read (sheet_from v)) Malformed (λ e. (e, and_both _ true (fields_fit (sheet_fields (sheet_from v)) l r.0) refl, rw tag at r.1)) (λ e. tt)
+      picked (WrittenAs bs) (sheet_formed (sheet_from v)) (Some (sheet_from v)) None (λ e. (e, and_both _ true (fields_fit (sheet_fields (sheet_from v)) l r.0) refl, rw tag at r.1)) (λ e. tt)
 
 writes : (bs : List ℕ) → are_bytes bs ≡ true → WrittenAs bs (decode_sheet bs)
 unfolding decode_sheet
 writes bs bytes =
     let tagged = eqb (get_or bs 0 0) sheet_tag in
     let found = walk (sheet_fields blank_sheet) (drop 3 bs) in
-    picked (WrittenAs bs) (is_whole bs && tagged) (sheet_of_walk found) Malformed
+    picked (WrittenAs bs) (is_whole bs && tagged) (sheet_of_walk found) None
     (λ e. walked bs (eqb-true (get_or bs 0 0) sheet_tag (and_right (is_whole bs) tagged e)) found (record_read (sheet_fields blank_sheet) bs (tidy blank_sheet) bytes (and_left (is_whole bs) tagged e)))
     (λ e. tt)
 
-writes_read_lem : (bs : List ℕ) (s : Sheet) → are_bytes bs ≡ true → decode_sheet bs ≡ Read s → WrittenAs bs (Read s)
+writes_read_lem : (bs : List ℕ) (s : Sheet) → are_bytes bs ≡ true → decode_sheet bs ≡ Some s → WrittenAs bs (Some s)
 writes_read_lem bs s bytes h = subst (WrittenAs bs) h (writes bs bytes)
 
 -- ---- all else
 
-refuses-other : (bs : List ℕ) → are_bytes bs ≡ true → ((s : Sheet) → sheet_formed s ≡ true → all_fit (sheet_fields s) [] ≡ true → encode_sheet s ≡ bs → ⊥) → decode_sheet bs ≡ Malformed
+refuses-other : (bs : List ℕ) → are_bytes bs ≡ true → ((s : Sheet) → sheet_formed s ≡ true → all_fit (sheet_fields s) [] ≡ true → encode_sheet s ≡ bs → ⊥) → decode_sheet bs ≡ None
 refuses-other bs bytes never = read (decode_sheet bs) (writes bs bytes)
   where
-    read : (d : SheetRead) → WrittenAs bs d → d ≡ Malformed
-    read Malformed w = refl
-    read (Read s) w = absurd (never s w.0 w.1 w.2)
+    read : (d : Option Sheet) → WrittenAs bs d → d ≡ None
+    read None w = refl
+    read (Some s) w = absurd (never s w.0 w.1 w.2)
 
 size : (s : Sheet) → length (encode_sheet s) ≡ 41
 unfolding total

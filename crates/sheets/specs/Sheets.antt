@@ -1,6 +1,6 @@
 -- Rate sheets (document 02, request 2): which are well formed, the bytes of one, and the sheet of bytes. The format is that of all records.
 -- Assumes nothing.
-use Rattle.std.specs.Prelude.{Bool, cond, ◌&&◌, List, [], ◌∷◌, ℕ, ◌%◌, leb, eqb, drop, get_or}
+use Rattle.std.specs.Prelude.{Option, Some, None, Bool, cond, ◌&&◌, List, [], ◌∷◌, ℕ, ◌%◌, leb, eqb, drop, get_or}
 use Rattle.rules.specs.Lists.{conj}
 use Rattle.rules.specs.Limits.{currency_limit}
 use Rattle.rules.specs.Table.{nonzero}
@@ -10,8 +10,6 @@ use Rattle.records.specs.Found.{is_whole}
 use Rattle.records.specs.Walk.{Walked, Found, Broken, walk}
 use Rattle.records.specs.Writing.{Writing, writing}
 use Rattle.sheets.specs.declared.Sheet.{Sheet}
-use Rattle.sheets.specs.declared.SheetRead.{SheetRead}
-use Rattle.sheets.specs.declared.SheetRead.TheVariants.{Read, Malformed}
 
 -- "outer tag 50 with object (05, ..), currency (06, ..), and new tags 0C numerator and 0D denominator, 8 bytes each"
 abbrev pub sheet_tag : ℕ
@@ -54,18 +52,18 @@ sheet_from v = record { object = get_or v 0 0; currency = get_or v 1 0 % 65536; 
 abbrev pub blank_sheet : Sheet
 blank_sheet = record { object = 0; currency = 0; numerator = 0; denominator = 0 }
 
-abbrev pub formed : Sheet → SheetRead
-formed s = cond (sheet_formed s) (Read s) Malformed
+abbrev pub formed : Sheet → Option Sheet
+formed s = cond (sheet_formed s) (Some s) None
 
-abbrev pub sheet_of_walk : Walked → SheetRead
-sheet_of_walk Broken = Malformed
+abbrev pub sheet_of_walk : Walked → Option Sheet
+sheet_of_walk Broken = None
 sheet_of_walk (Found v l) = formed (sheet_from v)
 
 -- the sheet that bytes are: one field of that outer tag and nothing behind it
-unfoldable pub decode_sheet : List ℕ → SheetRead
-decode_sheet bs = cond (is_whole bs && eqb (get_or bs 0 0) sheet_tag) (sheet_of_walk (walk (sheet_fields blank_sheet) (drop 3 bs))) Malformed
+unfoldable pub decode_sheet : List ℕ → Option Sheet
+decode_sheet bs = cond (is_whole bs && eqb (get_or bs 0 0) sheet_tag) (sheet_of_walk (walk (sheet_fields blank_sheet) (drop 3 bs))) None
 
 -- the paper's number for what the reader answers: 2 for a malformed sheet, else 0
-abbrev pub sheet_code : SheetRead → ℕ
-sheet_code (Read s) = 0
-sheet_code Malformed = 2
+abbrev pub sheet_code : Option Sheet → ℕ
+sheet_code (Some s) = 0
+sheet_code None = 2

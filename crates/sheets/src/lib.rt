@@ -2,10 +2,10 @@
 #![tactic(auto)]
 
 ghost use Rattle.std.specs.Prelude.{◌≡◌};
-ghost use Rattle.records.specs.Format.{in_places};
-ghost use Rattle.sheets.specs.Sheets.{numerator as numeratorField, denominator as denominatorField, sheet_fields, is_rate, sheet_formed, sheet_from, formed, decode_sheet, sheet_writing};
+ghost use Rattle.records.specs.Found.{fields_in};
+ghost use Rattle.sheets.specs.Sheets.{sheet_fields, is_rate, sheet_formed, sheet_from, formed, decode_sheet, sheet_writing};
 
-use records::{FIELDS, Field, Fields, Write};
+use records::{CURRENCY, FIELDS, Fields, OBJECT, Tag, WriteError};
 
 const SHEET_TAG: u8 = 0x50;
 
@@ -16,7 +16,7 @@ pub const SHEET: usize = 41;
 pub const LARGEST_RATE: u64 = 1000000000;
 
 // The rate of a currency, kept in the object of that number: `numerator` units of the currency are `denominator` home units.
-#[derive(Clone, Copy)]
+#[derive(Clone, Copy, PartialEq, Eq)]
 pub struct Sheet {
     pub object: u64,
     pub currency: u16,
@@ -24,43 +24,22 @@ pub struct Sheet {
     pub denominator: u64,
 }
 
-// What the reader answers. Malformed is the paper's number 2.
-#[derive(Clone, Copy)]
-pub enum SheetRead {
-    Read(Sheet),
-    Malformed,
-}
-
 // The format
 
-fn numerator(n: u64) -> Field
-    ensures { result ≡ numeratorField n }
-{
-    Field {
-        tag: 0x0C,
-        width: 8,
-        number: n,
-    }
-}
+const NUMERATOR: Tag = Tag(0x0C, 8);
 
-fn denominator(n: u64) -> Field
-    ensures { result ≡ denominatorField n }
-{
-    Field {
-        tag: 0x0D,
-        width: 8,
-        number: n,
-    }
-}
+const DENOMINATOR: Tag = Tag(0x0D, 8);
 
+#[tactic(auto, unfolding(rules::specs::Lists::all))]
 fn sheet_fields(s: Sheet) -> Fields
-    ensures { result ≡ in_places (sheet_fields s) }
+    ensures { fields_in result ≡ sheet_fields s }
 {
-    let o = records::object(s.object);
-    let c = records::currency(s.currency);
-    let n = numerator(s.numerator);
-    let d = denominator(s.denominator);
-    records::four(o, c, n, d)
+    records::fields_of([
+        OBJECT.of(s.object),
+        CURRENCY.of(u64::from(s.currency)),
+        NUMERATOR.of(s.numerator),
+        DENOMINATOR.of(s.denominator),
+    ])
 }
 
 fn is_rate(n: u64) -> bool
@@ -69,28 +48,21 @@ fn is_rate(n: u64) -> bool
     n != 0 && n <= LARGEST_RATE
 }
 
+#[tactic(auto, unfolding(crate::specs::Sheets::sheet_formed, rules::specs::Lists::conj))]
 fn is_formed(s: Sheet) -> bool
     ensures { result ≡ sheet_formed s }
 {
-    if s.object == 0 {
-        return false;
-    }
-    if s.currency == 0 {
-        return false;
-    }
-    if rules::LARGEST_CURRENCY < s.currency {
-        return false;
-    }
-    if !is_rate(s.numerator) {
-        return false;
-    }
-    is_rate(s.denominator)
+    s.object != 0
+        && s.currency != 0
+        && s.currency <= rules::LARGEST_CURRENCY
+        && is_rate(s.numerator)
+        && is_rate(s.denominator)
 }
 
 // Reading
 
 // The sheet with the numbers of its fields.
-fn sheet_from(v: [u64; FIELDS]) -> SheetRead
+fn sheet_from(v: [u64; FIELDS]) -> Option<Sheet>
     ensures { result ≡ formed (sheet_from v) }
 {
     let sheet = Sheet {
@@ -99,21 +71,15 @@ fn sheet_from(v: [u64; FIELDS]) -> SheetRead
         numerator: v[2],
         denominator: v[3],
     };
-    if !is_formed(sheet) {
-        return SheetRead::Malformed;
-    }
-    SheetRead::Read(sheet)
+    is_formed(sheet).then_some(sheet)
 }
 
-// Takes all the bytes lent as one record.
-pub fn read_sheet(bytes: &[u8]) -> SheetRead
+// Takes all the bytes lent as one record. None is the paper's number 2.
+pub fn read_sheet(bytes: &[u8]) -> Option<Sheet>
     ensures { result ≡ decode_sheet bytes.now }
 {
-    if !records::is_whole(bytes) {
-        return SheetRead::Malformed;
-    }
-    if bytes[0] != SHEET_TAG {
-        return SheetRead::Malformed;
+    if !records::is_whole(bytes) || bytes[0] != SHEET_TAG {
+        return None;
     }
     let blank = Sheet {
         object: 0,
@@ -121,26 +87,19 @@ pub fn read_sheet(bytes: &[u8]) -> SheetRead
         numerator: 0,
         denominator: 0,
     };
-    let fields = sheet_fields(blank);
-    let w = records::walk_fields(&bytes[3..], fields);
-    if !w.whole {
-        return SheetRead::Malformed;
-    }
-    let numbers = w.numbers;
-    sheet_from(numbers)
+    let w = records::walk_fields(&bytes[3..], sheet_fields(blank))?;
+    sheet_from(w.numbers)
 }
 
 // Writes a sheet's record at the start of `out`; the bytes beyond it stay. Where it refuses nothing is written.
-pub fn write_sheet(sheet: Sheet, out: &mut [u8]) -> Write
+pub fn write_sheet(sheet: Sheet, out: &mut [u8]) -> Result<usize, WriteError>
     ensures { sheet_writing sheet out.old ≡ record { answer = result; buffer = out.new } }
 {
     if !is_formed(sheet) {
-        return Write::Malformed;
+        return Err(WriteError::Malformed);
     }
     if out.len() < SHEET {
-        return Write::Full;
+        return Err(WriteError::Full);
     }
-    let fields = sheet_fields(sheet);
-    let none = [0u64; 0];
-    records::write_record(SHEET_TAG, fields, &none, out)
+    records::write_record(SHEET_TAG, sheet_fields(sheet), &[], out)
 }

@@ -1,67 +1,46 @@
--- Facts about lists of bytes: when two are the same, and what stands where one is put first.
+-- What stands in a buffer where a name was put first.
 -- Assumes nothing.
-use mathlib.Core.Path.{◌≡◌, refl, ap₂, ◌∙◌}
-use mathlib.Core.Bool.{true, false, not-eq-not, and-eq-true_iff}
-use mathlib.Core.List.{List, [], ◌∷◌, ◌++◌, append_assoc}
-use Prim.Native.Nat.{ℕ, suc, ◌+◌, ◌-◌, ◌≤◌, ◌<◌}
-use native.Mathlib.Numerals.{add-one}
+use mathlib.Core.Path.{◌≡◌, refl}
+use mathlib.Core.List.{List, ◌++◌, append_assoc}
+use Prim.Native.Nat.{ℕ, ◌+◌, ◌-◌, ◌≤◌, ◌<◌}
 use native.Mathlib.Omega.{arith}
-use lib.Dec.{eqb}
-use lib.ListN.{length, set, take, drop, length-append, length-drop}
-use lib.Seq.{set_split, take_at, drop_at, drop-drop, length-take-le}
-use borrow.Author.Tests.{le-ltb, lt-ltb, eq-eqb, eqb-true}
-use Rattle.store_names.specs.declared.NameWrite.TheVariants.{Written, Full}
-use Rattle.store_names.specs.Names.{same_bytes, put_first}
-
--- ---- the same bytes
-
-pub same_eq : (l m : List ℕ) → same_bytes l m ≡ true → l ≡ m
-unfolding same_bytes
-same_eq [] [] h = refl
-same_eq [] (b ∷ m) h = cc
-same_eq (a ∷ l) [] h = cc
-same_eq (a ∷ l) (b ∷ m) h =
-    let t = (and-eq-true_iff (eqb a b) (same_bytes l m)).0 h in
-    ap₂ ◌∷◌ (eqb-true a b t.0) (same_eq l m t.1)
-
-pub same_not : (l m : List ℕ) → (l ≡ m → ⊥) → same_bytes l m ≡ false
-same_not l m other = (not-eq-not {b = false}).0 (λ h. other (same_eq l m h))
-
-pub same_refl : (l : List ℕ) → same_bytes l l ≡ true
-unfolding same_bytes
-same_refl [] = refl
-same_refl (b ∷ l) = rw (eq-eqb b b refl) (same_refl l)
-
--- ---- a byte stored at the front of what is left
-
-pub drop-set : (l : List ℕ) (i v : ℕ) → i < length l → drop i (set l i v) ≡ v ∷ drop (i + 1) l
-drop-set l i v h = rw (set_split l i v h, add-one) (drop_at (take i l) (v ∷ drop (suc i) l) i (length-take-le i l (omega arith)))
-
--- ---- bytes put first
-
-pub first-full : (bytes buffer : List ℕ) → length buffer < length bytes → put_first bytes buffer ≡ record { answer = Full; buffer = buffer }
-unfolding put_first
-first-full bytes buffer h = rw (lt-ltb (length buffer) (length bytes) h)
-
--- what is lent behind a first part, for k bytes
-pub part_length : (x buffer : List ℕ) (k : ℕ) → length x + k ≤ length buffer → length (take (length x + k - length x) (drop (length x) (x ++ drop (length x) buffer))) ≡ k
-part_length x buffer k room =
-    let size : length x + k - length x ≡ k = omega arith in
-    rw (size, drop_at x (drop (length x) buffer) (length x) refl) (length-take-le k (drop (length x) buffer) (omega (arith, length-drop (length x) buffer)))
+use lib.ListN.{length, drop, length-append}
+use lib.Seq.{take_at, drop_at, drop-drop}
+use borrow.Author.Tests.{le-ltb, lt-ltb}
+use borrow.Rule.Slice.PartMut.{put_mid}
+use Rattle.std.specs.Prelude.{Ok, Err}
+use Rattle.fields.specs.declared.WriteError.TheVariants.{Full}
+use Rattle.store_names.specs.Decimal.{digits}
+use Rattle.store_names.specs.Names.{name_digits, put_first}
+use Rattle.store_names.proofs.Digits.{length_digits}
 
 -- a part more, from a, where the parts so far end, to b: it goes over what stood there, and the bytes beyond it stay
-part_more : (x y buffer : List ℕ) (a b : ℕ) → length x ≡ a → a + length y ≡ b
-    → take a (x ++ drop a buffer) ++ (y ++ drop (b - a) (drop a (x ++ drop a buffer))) ≡ (x ++ y) ++ drop b buffer
+part_more : (x y buffer : List ℕ) (a b : ℕ) → length x ≡ a → a + length y ≡ b → put_mid a (b - a) (x ++ drop a buffer) y ≡ (x ++ y) ++ drop b buffer
 part_more x y buffer a b long end =
     let rest : a + (b - a) ≡ b = omega arith in
     rw (take_at x (drop a buffer) a long, drop_at x (drop a buffer) a long, drop-drop, rest, append_assoc)
 
--- a part, and two more
-pub first_parts : (x y z buffer : List ℕ) (a b c : ℕ) → length x ≡ a → a + length y ≡ b → b + length z ≡ c → c ≤ length buffer
-    → (left : List ℕ) → left ≡ take a (x ++ drop a buffer) ++ (y ++ drop (b - a) (drop a (x ++ drop a buffer)))
-    → put_first (x ++ y ++ z) buffer ≡ record { answer = Written c; buffer = take b left ++ (z ++ drop (c - b) (drop b left)) }
-unfolding put_first
-first_parts x y z buffer a b c long end whole room left is =
-    let both : length (x ++ y) ≡ b = omega (arith, length-append x y) in
-    let size : length (x ++ y ++ z) ≡ c = omega (arith, length-append (x ++ y) z) in
-    rw (size, le-ltb (length buffer) c room, is ∙ part_more x y buffer a b long end, part_more (x ++ y) z buffer b c both whole)
+module _ (folder suffix buffer : List ℕ) (n : ℕ) where
+  length_name : length (folder ++ digits name_digits n ++ suffix) ≡ length folder + name_digits + length suffix
+  length_name = simp (length-append, length_digits)
+
+  -- the room is short
+  pub no_room : length buffer < length folder + name_digits + length suffix → put_first (folder ++ digits name_digits n ++ suffix) buffer ≡ record { answer = Err Full; buffer = buffer }
+  unfolding put_first
+  no_room h = rw (length_name, lt-ltb (length buffer) (length folder + name_digits + length suffix) h)
+
+  -- three parts were put, one behind the other
+  pub parts_put : (first second third : List ℕ) → first ≡ folder → second ≡ digits name_digits n → third ≡ suffix → length folder + name_digits + length suffix ≤ length buffer
+      → put_first (folder ++ digits name_digits n ++ suffix) buffer ≡ record {
+        answer = Ok (length folder + name_digits + length suffix);
+        buffer = put_mid (length folder + name_digits) (length folder + name_digits + length suffix - (length folder + name_digits)) (put_mid (length folder) (length folder + name_digits - length folder) (first ++ drop (length folder) buffer) second) third;
+      }
+  unfolding put_first
+  parts_put first second third e f g room =
+      let a = length folder in
+      let b = a + name_digits in
+      let two = part_more folder (digits name_digits n) buffer a b refl (omega (arith, length_digits name_digits n)) in
+      let three = part_more (folder ++ digits name_digits n) suffix buffer b (b + length suffix) (simp (length-append, length_digits)) refl in
+      rw (e, f, g, length_name, le-ltb (length buffer) (b + length suffix) room, two, three)
+
+pub ruleset placing = (no_room, parts_put)

@@ -9,10 +9,10 @@ use native.Mathlib.Numerals.{add-one}
 use native.Mathlib.Omega.{arith}
 use lib.Arith.{digits_div, digits_mod}
 use lib.Dec.{leb, lit<}
-use lib.ListN.{length, length-append}
+use lib.ListN.{length, get_or, set, drop, length-append, drop_of_length-le}
+use Rattle.std.proofs.lemmas.List.{drop_more, drop-set}
 use borrow.Author.Tests.{le-leb, lt-leb, leb-true}
-use Rattle.store_names.specs.declared.Decimal.{Decimal}
-use Rattle.store_names.specs.declared.Decimal.TheVariants.{Number, Bad}
+use Rattle.std.specs.Prelude.{Option, Some, None}
 use Rattle.store_names.specs.Decimal.{largest, is_digit, all_digits, value_from, digits, decimal_from}
 
 -- ---- one digit
@@ -37,14 +37,6 @@ pub length_digits : (k n : ℕ) → length (digits k n) ≡ k
 unfolding digits
 length_digits zero n = refl
 length_digits (suc k) n = length-append (digits k (n / 10)) ((48 + n % 10) ∷ []) ∙ ap (λ (m : ℕ). m + 1) (length_digits k (n / 10)) ∙ add-one k
-
--- where there are any, the last is what remains by ten
-pub digits_last : (k n : ℕ) → 0 < k → digits k n ≡ digits (k - 1) (n / 10) ++ (48 + n % 10) ∷ []
-unfolding digits
-digits_last zero n h = absurd (omega arith)
-digits_last (suc k) n h =
-    let e : suc k - 1 ≡ k = omega arith in
-    rw e refl
 
 all_append : (l m : List ℕ) → all_digits (l ++ m) ≡ all_digits l && all_digits m
 unfolding all_digits
@@ -71,7 +63,7 @@ value-digits (suc k) n h =
     let less : n / 10 < 10 ^ k = (div-lt_iff_lt-mul (lit< tt)).1 (rw pow-suc at h) in
     rw (value-append, value-digits k (n / 10) less) (omega arith)
 
-pub decimal-digits : (k n : ℕ) → n < 10 ^ k → n ≤ largest → decimal_from 0 (digits k n) ≡ Number n
+pub decimal-digits : (k n : ℕ) → n < 10 ^ k → n ≤ largest → decimal_from 0 (digits k n) ≡ Some n
 unfolding decimal_from
 decimal-digits k n fits taken = rw (all_digits_lem, value-digits k n fits, le-leb n largest taken)
 
@@ -90,37 +82,55 @@ digits_value k n (b ∷ l) h =
     rw (turn, digits_value (suc k) (n * 10 + (b - 48)) l t.1, digits_div n less, digits_mod n less, same, append_assoc)
 
 -- a test that a number was read behind held
-pub read_behind : (t : Bool) (d : Decimal) (n : ℕ) → cond t d Bad ≡ Number n → (t ≡ true) × (d ≡ Number n)
+pub read_behind : (t : Bool) (d : Option ℕ) (n : ℕ) → cond t d None ≡ Some n → (t ≡ true) × (d ≡ Some n)
 read_behind true d n h = (refl, h)
 read_behind false d n h = ((cc), (cc))
 
-pub digits_decimal : (l : List ℕ) (n : ℕ) → decimal_from 0 l ≡ Number n → (n ≤ largest) × (digits (length l) n ≡ l)
+pub digits_decimal : (l : List ℕ) (n : ℕ) → decimal_from 0 l ≡ Some n → (n ≤ largest) × (digits (length l) n ≡ l)
 unfolding decimal_from digits
 digits_decimal l n h =
-    let r = read_behind (all_digits l && leb (value_from 0 l) largest) (Number (value_from 0 l)) n h in
+    let r = read_behind (all_digits l && leb (value_from 0 l) largest) (Some (value_from 0 l)) n h in
     let t = (and-eq-true_iff (all_digits l) (leb (value_from 0 l) largest)).0 r.0 in
     let value : value_from 0 l ≡ n = cc r.1 in
     (rw value at (leb-true (value_from 0 l) largest t.1), rw (zero-add, value) at (digits_value 0 0 l t.0))
 
--- ---- the reader's cases
+-- ---- the reader's cases: the byte at i is a digit, or it is none
 
-pub decimal_digit : (n b : ℕ) (l : List ℕ) → is_digit b ≡ true → decimal_from n (b ∷ l) ≡ decimal_from (n * 10 + (b - 48)) l
+pub reads_digit : (n i : ℕ) (s : List ℕ) → i < length s → is_digit (get_or s i 0) ≡ true → decimal_from n (drop i s) ≡ decimal_from (n * 10 + (get_or s i 0 - 48)) (drop (i + 1) s)
 unfolding decimal_from all_digits value_from
-decimal_digit n b l h = rw h
+reads_digit n i s within h = rw (drop_more s i 0 within, h)
 
-pub decimal-other : (n b : ℕ) (l : List ℕ) → is_digit b ≡ false → decimal_from n (b ∷ l) ≡ Bad
+pub reads_other : (n i : ℕ) (s : List ℕ) → i < length s → is_digit (get_or s i 0) ≡ false → decimal_from n (drop i s) ≡ None
 unfolding decimal_from all_digits
-decimal-other n b l h = rw h
+reads_other n i s within h = rw (drop_more s i 0 within, h)
 
 value_grows : (n : ℕ) (l : List ℕ) → n ≤ value_from n l
 unfolding value_from
 value_grows n [] = omega arith
 value_grows n (b ∷ l) = omega (arith, value_grows (n * 10 + (b - 48)) l)
 
-pub decimal_large : (n : ℕ) (l : List ℕ) → largest < n → decimal_from n l ≡ Bad
+pub decimal_large : (n : ℕ) (l : List ℕ) → largest < n → decimal_from n l ≡ None
 unfolding decimal_from
 decimal_large n l h = rw (lt-leb (value_from n l) largest (omega (arith, value_grows n l)), and-false (all_digits l))
 
-pub decimal_end : (n : ℕ) → n ≤ largest → decimal_from n [] ≡ Number n
+pub decimal_end : (n i : ℕ) (s : List ℕ) → n ≤ largest → length s ≤ i → decimal_from n (drop i s) ≡ Some n
 unfolding decimal_from all_digits value_from
-decimal_end n h = rw (le-leb n largest h)
+decimal_end n i s h past = rw (drop_of_length-le s past, le-leb n largest h)
+
+pub ruleset reading = (reads_digit, reads_other, decimal_large, decimal_end)
+
+-- ---- the writer's cases: the digit before those from i on, or none is left
+
+pub puts_digit : (i n : ℕ) (s : List ℕ) → 0 < i → i ≤ length s → digits (i - 1) (n / 10) ++ drop (i - 1) (set s (i - 1) (48 + n % 10)) ≡ digits i n ++ drop i s
+unfolding digits
+puts_digit zero n s some within = absurd (omega arith)
+puts_digit (suc i) n s some within =
+    let at : suc i - 1 ≡ i = omega arith in
+    rw (at, drop-set s i (48 + n % 10) within, add-one, append_assoc)
+
+pub digits_put : (i n : ℕ) (s : List ℕ) → i ≤ 0 → digits i n ++ drop i s ≡ s
+unfolding digits
+digits_put zero n s h = refl
+digits_put (suc i) n s h = absurd (omega arith)
+
+pub ruleset putting = (puts_digit, digits_put)

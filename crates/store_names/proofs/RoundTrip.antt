@@ -9,42 +9,39 @@ use lib.Dec.{eqb, leb}
 use lib.ListN.{length, take, drop, length-append, take-append-drop}
 use lib.Seq.{take_at, drop_at, length-take-le}
 use borrow.Author.Tests.{le-leb, leb-true, not-true}
-use Rattle.store_names.specs.declared.Decimal.{Decimal}
-use Rattle.store_names.specs.declared.Decimal.TheVariants.{Number, Bad}
+use Rattle.std.specs.Prelude.{bytes_eq, Option, Some, None}
+use Rattle.std.proofs.lemmas.Slice.Eq.{bytes_eq-Decides}
 use Rattle.store_names.specs.declared.Name.{Name}
 use Rattle.store_names.specs.declared.Name.TheVariants.{Manifest, Object}
-use Rattle.store_names.specs.declared.NameRead.{NameRead}
-use Rattle.store_names.specs.declared.NameRead.TheVariants.{Name as IsName, Malformed as NotName}
 use Rattle.store_names.specs.Decimal.{largest, digits, decimal}
-use Rattle.store_names.specs.Names.{name_digits, manifest_folder, object_folder, manifest_suffix, object_suffix, same_bytes, number_before, number_in, object_read, manifest_or, encode, is_taken, decode}
+use Rattle.store_names.specs.Names.{name_digits, manifest_folder, object_folder, manifest_suffix, object_suffix, number_before, number_in, object_read, manifest_or, encode, is_taken, decode}
 use Rattle.store_names.specs.RoundTrip.{RoundTrip}
-use Rattle.store_names.proofs.Bytes.{same_eq, same_refl}
 use Rattle.store_names.proofs.Digits.{length_digits, decimal-digits, read_behind, digits_decimal}
 
 -- ---- reading what was written
 
 -- digits and a suffix are a number before that suffix
-number_before_lem : (suffix : List ℕ) (n : ℕ) → n ≤ largest → number_before suffix (digits name_digits n ++ suffix) ≡ Number n
+number_before_lem : (suffix : List ℕ) (n : ℕ) → n ≤ largest → number_before suffix (digits name_digits n ++ suffix) ≡ Some n
 unfolding number_before
 number_before_lem suffix n taken =
     let long = length_digits name_digits n in
     let room : name_digits ≤ length (digits name_digits n ++ suffix) = omega (arith, length-append (digits name_digits n) suffix) in
-    rw (le-leb _ _ room, drop_at (digits name_digits n) suffix name_digits long, same_refl suffix, take_at (digits name_digits n) suffix name_digits long, decimal-digits name_digits n (omega arith) taken)
+    rw (le-leb _ _ room, drop_at (digits name_digits n) suffix name_digits long, (bytes_eq-Decides suffix suffix).1 refl, take_at (digits name_digits n) suffix name_digits long, decimal-digits name_digits n (omega arith) taken)
 
 -- and behind a folder one in that folder
-number_in_lem : (folder suffix : List ℕ) (n : ℕ) → n ≤ largest → number_in folder suffix (folder ++ digits name_digits n ++ suffix) ≡ Number n
+number_in_lem : (folder suffix : List ℕ) (n : ℕ) → n ≤ largest → number_in folder suffix (folder ++ digits name_digits n ++ suffix) ≡ Some n
 unfolding number_in
 number_in_lem folder suffix n taken =
     let behind = digits name_digits n ++ suffix in
     let split : folder ++ digits name_digits n ++ suffix ≡ folder ++ behind = append_assoc folder (digits name_digits n) suffix in
-    rw (split, take_at folder behind (length folder) refl, same_refl folder, drop_at folder behind (length folder) refl) (number_before_lem suffix n taken)
+    rw split (simp (take_at folder behind (length folder) refl, (bytes_eq-Decides folder folder).1 refl, drop_at folder behind (length folder) refl) (number_before_lem suffix n taken))
 
 -- an object's folder is no manifest's
-crossed : (suffix behind : List ℕ) → number_in manifest_folder suffix (object_folder ++ behind) ≡ Bad
-unfolding number_in same_bytes
+crossed : (suffix behind : List ℕ) → number_in manifest_folder suffix (object_folder ++ behind) ≡ None
+unfolding number_in
 crossed suffix behind = refl
 
-reads_written_lem : (v : Name) → is_taken v ≡ true → decode (encode v) ≡ IsName v
+reads_written_lem : (v : Name) → is_taken v ≡ true → decode (encode v) ≡ Some v
 unfolding decode
 reads_written_lem (Manifest n) t = rw (number_in_lem manifest_folder manifest_suffix n (leb-true n largest t))
 reads_written_lem (Object n) t =
@@ -53,50 +50,50 @@ reads_written_lem (Object n) t =
 
 -- ---- writing what was read
 
-number_read : (suffix bytes : List ℕ) (n : ℕ) → number_before suffix bytes ≡ Number n → (n ≤ largest) × (digits name_digits n ++ suffix ≡ bytes)
+number_read : (suffix bytes : List ℕ) (n : ℕ) → number_before suffix bytes ≡ Some n → (n ≤ largest) × (digits name_digits n ++ suffix ≡ bytes)
 unfolding number_before
 number_read suffix bytes n h =
-    let r = read_behind (leb name_digits (length bytes) && same_bytes (drop name_digits bytes) suffix) (decimal (take name_digits bytes)) n h in
-    let both = (and-eq-true_iff (leb name_digits (length bytes)) (same_bytes (drop name_digits bytes) suffix)).0 r.0 in
+    let r = read_behind (leb name_digits (length bytes) && bytes_eq (drop name_digits bytes) suffix) (decimal (take name_digits bytes)) n h in
+    let both = (and-eq-true_iff (leb name_digits (length bytes)) (bytes_eq (drop name_digits bytes) suffix)).0 r.0 in
     let long = length-take-le name_digits bytes (leb-true name_digits (length bytes) both.0) in
     let d = digits_decimal (take name_digits bytes) n r.1 in
-    (d.0, ap₂ ◌++◌ (ap (λ (k : ℕ). digits k n) (sym long) ∙ d.1) (sym (same_eq (drop name_digits bytes) suffix both.1)) ∙ take-append-drop name_digits bytes)
+    (d.0, ap₂ ◌++◌ (ap (λ (k : ℕ). digits k n) (sym long) ∙ d.1) (sym ((bytes_eq-Decides (drop name_digits bytes) suffix).0 both.1)) ∙ take-append-drop name_digits bytes)
 
-number-read_in : (folder suffix bytes : List ℕ) (n : ℕ) → number_in folder suffix bytes ≡ Number n → (n ≤ largest) × (folder ++ digits name_digits n ++ suffix ≡ bytes)
+number-read_in : (folder suffix bytes : List ℕ) (n : ℕ) → number_in folder suffix bytes ≡ Some n → (n ≤ largest) × (folder ++ digits name_digits n ++ suffix ≡ bytes)
 unfolding number_in
 number-read_in folder suffix bytes n h =
-    let r = read_behind (same_bytes (take (length folder) bytes) folder) (number_before suffix (drop (length folder) bytes)) n h in
+    let r = read_behind (bytes_eq (take (length folder) bytes) folder) (number_before suffix (drop (length folder) bytes)) n h in
     let d = number_read suffix (drop (length folder) bytes) n r.1 in
-    (d.0, append_assoc folder (digits name_digits n) suffix ∙ ap₂ ◌++◌ (sym (same_eq (take (length folder) bytes) folder r.0)) d.1 ∙ take-append-drop (length folder) bytes)
+    (d.0, append_assoc folder (digits name_digits n) suffix ∙ ap₂ ◌++◌ (sym ((bytes_eq-Decides (take (length folder) bytes) folder).0 r.0)) d.1 ∙ take-append-drop (length folder) bytes)
 
 -- an object was read where its number isn't 0
-object_read_lem : (zero : Bool) (n : ℕ) (v : Name) → cond zero NotName (IsName (Object n)) ≡ IsName v → (zero ≡ false) × (Object n ≡ v)
+object_read_lem : (zero : Bool) (n : ℕ) (v : Name) → cond zero None (Some (Object n)) ≡ Some v → (zero ≡ false) × (Object n ≡ v)
 object_read_lem true n v h = ((cc), (cc))
 object_read_lem false n v h = (refl, (cc))
 
-writes_read_lem : (bytes : List ℕ) (v : Name) → decode bytes ≡ IsName v → (is_taken v ≡ true) × (encode v ≡ bytes)
+writes_read_lem : (bytes : List ℕ) (v : Name) → decode bytes ≡ Some v → (is_taken v ≡ true) × (encode v ≡ bytes)
 unfolding decode
 writes_read_lem bytes v = read (number_in manifest_folder manifest_suffix bytes) refl (number_in object_folder object_suffix bytes) refl
   where
-    read : (m : Decimal) → number_in manifest_folder manifest_suffix bytes ≡ m → (o : Decimal) → number_in object_folder object_suffix bytes ≡ o → manifest_or m (object_read o) ≡ IsName v → (is_taken v ≡ true) × (encode v ≡ bytes)
-    read (Number n) is o other h =
+    read : (m : Option ℕ) → number_in manifest_folder manifest_suffix bytes ≡ m → (o : Option ℕ) → number_in object_folder object_suffix bytes ≡ o → manifest_or m (object_read o) ≡ Some v → (is_taken v ≡ true) × (encode v ≡ bytes)
+    read (Some n) is o other h =
         let r = number-read_in manifest_folder manifest_suffix bytes n is in
         let name : v ≡ Manifest n = cc in
         rw name (le-leb n largest r.0, r.1)
-    read Bad isn't (Number n) is h =
+    read None isn't (Some n) is h =
         let r = number-read_in object_folder object_suffix bytes n is in
         let o = object_read_lem (eqb n 0) n v h in
         rw (sym o.1) (rw (o.0, le-leb n largest r.0), r.1)
-    read Bad isn't Bad neither h = ((cc), (cc))
+    read None isn't None neither h = ((cc), (cc))
 
 -- ---- all else
 
-refuses-other : (bytes : List ℕ) → ((v : Name) → is_taken v ≡ true → encode v ≡ bytes → ⊥) → decode bytes ≡ NotName
+refuses-other : (bytes : List ℕ) → ((v : Name) → is_taken v ≡ true → encode v ≡ bytes → ⊥) → decode bytes ≡ None
 refuses-other bytes none = read (decode bytes) refl
   where
-    read : (r : NameRead) → decode bytes ≡ r → decode bytes ≡ NotName
-    read NotName h = h
-    read (IsName v) h =
+    read : (r : Option Name) → decode bytes ≡ r → decode bytes ≡ None
+    read None h = h
+    read (Some v) h =
         let w = writes_read_lem bytes v h in
         absurd (none v w.0 w.1)
 

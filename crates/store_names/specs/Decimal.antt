@@ -1,8 +1,6 @@
 -- Numbers in a fixed number of decimal digits, in ASCII, the most significant first.
 -- Assumes nothing.
-use Rattle.std.specs.Prelude.{Bool, true, cond, ◌&&◌, List, [], ◌∷◌, ◌++◌, ℕ, zero, suc, ◌+◌, ◌-◌, ◌*◌, ◌/◌, ◌%◌, leb}
-use Rattle.store_names.specs.declared.Decimal.{Decimal}
-use Rattle.store_names.specs.declared.Decimal.TheVariants.{Number, Bad}
+use Rattle.std.specs.Prelude.{Bool, true, cond, ◌&&◌, List, [], ◌∷◌, ◌++◌, ℕ, zero, suc, ◌+◌, ◌-◌, ◌*◌, ◌/◌, ◌%◌, leb, Option, Some, None}
 
 -- the largest number that a name may have
 abbrev pub largest : ℕ
@@ -27,8 +25,8 @@ digits zero n = []
 digits (suc k) n = digits k (n / 10) ++ (48 + n % 10) ∷ []
 
 -- the number that the bytes say behind digits that said n: all of them are digits, and it isn't above the largest
-unfoldable pub decimal_from : ℕ → List ℕ → Decimal
-decimal_from n bs = cond (all_digits bs && leb (value_from n bs) largest) (Number (value_from n bs)) Bad
+unfoldable pub decimal_from : ℕ → List ℕ → Option ℕ
+decimal_from n bs = cond (all_digits bs && leb (value_from n bs) largest) (Some (value_from n bs)) None
 
-abbrev pub decimal : List ℕ → Decimal
+abbrev pub decimal : List ℕ → Option ℕ
 decimal bs = decimal_from 0 bs

@@ -10,13 +10,7 @@ use std::io::Read;
 const LONGEST: usize = 65536;
 
 // A byte more: an input that fills it is too long.
-pub const ROOM: usize = LONGEST + 1;
-
-#[derive(Drop)]
-pub enum Input {
-    Read(usize),
-    Failed,
-}
+const ROOM: usize = LONGEST + 1;
 
 // A write that fails is passed over.
 pub fn say(rt: &impl Print, text: &[u8]) {
@@ -41,26 +35,42 @@ pub fn say_error(errors: &impl Print, text: &[u8]) {
 
 // Reads a file that is open until it ends or the room is full, and answers how many bytes it put at the room's start; or
 // that a read failed, when nobody knows what the file has.
-pub fn read_open<R: Read>(file: &mut R, room: &mut [u8]) -> Input
+pub fn read_open<R: Read>(file: &mut R, room: &mut [u8]) -> io::Result<usize>
     ensures fits { FitsRoom result room.new }
     ensures bytes { HasRead result (R.remaining file.old) (R.remaining file.new) room.new }
 {
     let mut done = 0;
+    // stays: a rule of the project, no heap: `read_to_end` takes a `Vec`
     while done < room.len() {
-        let Ok(n) = file.read(&mut room[done..]) else {
-            return Input::Failed;
-        };
+        let n = file.read(&mut room[done..])?;
         if n == 0 {
             break;
         }
         done += n;
     }
-    Input::Read(done)
+    Ok(done)
 }
 
-pub fn read_input(rt: &impl io::Input, room: &mut [u8]) -> Input
+pub fn read_input(rt: &impl io::Input, room: &mut [u8]) -> io::Result<usize>
     ensures { FitsRoom result room.new }
 {
-    let mut input = rt.reader();
-    read_open(&mut input, room)
+    read_open(&mut rt.reader(), room)
+}
+
+// Hands standard input, at most 65,536 bytes, to `run`. An input that fills the room is too long, and where a read fails
+// standard output stays empty: nothing is run then.
+pub fn run_on_input<F: FnOnce(&[u8])>(
+    rt: &(impl io::Input + Print),
+    errors: &impl Print,
+    failed: &[u8],
+    run: F,
+)
+    requires { F.IsAlwaysCallable run }
+{
+    let mut room = [0; ROOM];
+    match read_input(rt, &mut room) {
+        Ok(n) if n < room.len() => run(&room[..n]),
+        Ok(_) => say(rt, b"too long\n"),
+        Err(_) => say_error(errors, failed),
+    }
 }

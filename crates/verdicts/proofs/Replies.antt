@@ -8,14 +8,16 @@ use native.Mathlib.Omega.{arith}
 use lib.Dec.{leb, eqb}
 use lib.ListN.{length, drop, get_or}
 use borrow.Author.Tests.{lt-leb}
+use Rattle.std.specs.Bool.{then_some}
 use Rattle.fields.specs.Fields.{claimed}
 use Rattle.rules.specs.declared.Answer.{Answer}
 use Rattle.rules.specs.declared.Answer.TheVariants.{Refused, Done, Epoch, Listed, Found, Collected}
 use Rattle.rules.specs.Lists.{conj, rising_above}
 use Rattle.rules.specs.Limits.{limits}
+use Rattle.rules.specs.Typed.{object_list}
 use Rattle.records.specs.Found.{is_whole}
 use Rattle.records.specs.Walk.{Found as FieldsFound, walk}
-use Rattle.verdicts.specs.Verdicts.{verdict_tag, verdict_fields, verdict_formed, shape_of, is_alone, answer_from, IsVerdict, NoVerdict, Decoded, reply_of_walk, decode_verdict}
+use Rattle.verdicts.specs.Verdicts.{verdict_tag, verdict_fields, verdict_formed, shape_of, is_alone, answer_from, IsVerdict, NoVerdict, Decoded, reply_of_walk, decode_verdict, verdict_read}
 use Rattle.records.proofs.Places.{some-list}
 
 -- ---- by the list
@@ -32,14 +34,22 @@ verdict_long Collected l h = rw (lt-leb (length l) limits.places h, and-false (r
 
 -- ---- by the fields
 
-pub reply_is : (shape : Answer) (v l : List ℕ)
-    → reply_of_walk shape (FieldsFound v l) ≡ cond ((is_alone shape || eqb (get_or v 0 0) 0) && verdict_formed (answer_from shape v) l) (IsVerdict (answer_from shape v) l) NoVerdict
-reply_is shape v l = by (is_alone shape) (eqb (get_or v 0 0) 0) (verdict_formed (answer_from shape v) l) (IsVerdict (answer_from shape v) l)
+pub reply-read : (shape : Answer) (v l : List ℕ)
+    → verdict_read (reply_of_walk shape (FieldsFound v l))
+    ≡ then_some ((is_alone shape || eqb (get_or v 0 0) 0) && verdict_formed (answer_from shape v) l) (record { answer = answer_from shape v; list = object_list l })
+reply-read shape v l = by (is_alone shape) (eqb (get_or v 0 0) 0) (verdict_formed (answer_from shape v) l)
   where
-    by : (alone zero formed : Bool) (d : Decoded) → cond alone (cond formed d NoVerdict) (cond zero (cond formed d NoVerdict) NoVerdict) ≡ cond ((alone || zero) && formed) d NoVerdict
-    by true zero formed d = refl
-    by false true formed d = refl
-    by false false formed d = refl
+    a : Answer
+    a = answer_from shape v
+
+    by : (alone zero formed : Bool)
+        → verdict_read (cond alone (cond formed (IsVerdict a l) NoVerdict) (cond zero (cond formed (IsVerdict a l) NoVerdict) NoVerdict))
+        ≡ then_some ((alone || zero) && formed) (record { answer = a; list = object_list l })
+    by true zero true = refl
+    by true zero false = refl
+    by false true true = refl
+    by false true false = refl
+    by false false formed = refl
 
 -- ---- by the bytes
 

@@ -1,6 +1,6 @@
 -- Verdict records (document 01, "A verdict is tag 40 ..") : the bytes of a reply, which replies are well formed, and the reply of bytes.
 -- Assumes nothing.
-use Rattle.std.specs.Prelude.{Bool, true, false, cond, ◌&&◌, List, [], ◌∷◌, ℕ, ◌+◌, ◌-◌, ◌%◌, leb, eqb, length, drop, get_or}
+use Rattle.std.specs.Prelude.{Option, Some, None, Bool, true, false, cond, ◌&&◌, List, [], ◌∷◌, ℕ, ◌+◌, ◌-◌, ◌%◌, leb, eqb, length, drop, get_or}
 use Rattle.fields.specs.Fields.{claimed}
 use Rattle.rules.specs.declared.Answer.{Answer}
 use Rattle.rules.specs.declared.Answer.TheVariants.{Refused, Done, Epoch, Listed, Found, Collected}
@@ -8,11 +8,8 @@ use Rattle.rules.specs.declared.Verdict.{Verdict}
 use Rattle.rules.specs.Lists.{conj, none, rising_above}
 use Rattle.rules.specs.Limits.{limits}
 use Rattle.rules.specs.Table.{nonzero}
-use Rattle.rules.specs.Step.{alone}
-use Rattle.rules.specs.Typed.{is_padded, object_list, objects_of, verdict_of}
+use Rattle.rules.specs.Typed.{is_padded, object_list, objects_of}
 use Rattle.records.specs.declared.Field.{Field}
-use Rattle.records.specs.declared.Reading.TheVariants.{Read, Malformed}
-use Rattle.verdicts.specs.declared.VerdictRead.{VerdictRead}
 use Rattle.records.specs.Format.{code, epoch, object, list, manifest, record_of}
 use Rattle.records.specs.Writing.{Writing, writing}
 use Rattle.records.specs.Walk.{Walked, Found as FieldsFound, Broken, walk}
@@ -99,10 +96,10 @@ decode_verdict bs =
     (reply_of_walk (shape_of bs) (walk (verdict_fields (shape_of bs)) (drop 3 bs)))
     NoVerdict
 
--- a reply in its places; beside a refusal stands Done with no list
-abbrev pub verdict_read : Decoded → VerdictRead
-verdict_read NoVerdict = record { reading = Malformed; verdict = verdict_of (alone Done) }
-verdict_read (IsVerdict a l) = record { reading = Read; verdict = record { answer = a; list = object_list l } }
+-- a reply in its places; None is the paper's number 2
+abbrev pub verdict_read : Decoded → Option Verdict
+verdict_read NoVerdict = None
+verdict_read (IsVerdict a l) = Some (record { answer = a; list = object_list l })
 
 -- the typed verdicts that a reader takes: the list's places say a list, and the reply is well formed
 abbrev pub can_answer : Verdict → Bool

@@ -1,17 +1,14 @@
--- `listing::read_listing` meets its contract. The invariant: what is left says, behind what was said, what all says.
+-- `listing::read_listing` meets its contract. The invariant: what is left says, behind what was said, what all says; and each
+-- line has a byte at least, so that none of the counts can overflow.
 -- Assumes nothing.
-use mathlib.Core.Path.{◌≡◌}
-use Prim.Native.Nat.{◌-◌, ◌≤◌}
-use lib.ListN.{length, take, drop}
+use Rattle.std.proofs.Common.{◌≡◌, ◌+◌, ◌≤◌, length}
 use Rattle.listing.specs.Lines.{lines_of}
 use Rattle.listing.specs.Listing.{listing_of}
 use Rattle.listing.proofs.Telling.{tell}
 use Rattle.listing.proofs.read_listing.Given as goal
 
-abbrev pub invariant-loop-start : goal.invariant-loop-start
-invariant-loop-start l =
-    (l.start ≤ length l.bytes) × (l.line ≤ l.start) × (l.said.objects ≤ l.line) × (l.from ≤ l.to) × (l.to ≤ length l.bytes)
-    × (tell l.said l.line (take (l.to - l.from) (drop l.from l.bytes)) (lines_of (drop l.start l.bytes)) ≡ listing_of l.bytes)
+abbrev pub invariant-loop-length : goal.invariant-loop-length
+invariant-loop-length l = (l.lines + length l.rest ≤ length l.bytes) × (l.said.objects ≤ l.lines) × (tell l.said l.lines l.before (lines_of l.rest) ≡ listing_of l.bytes)
 
-abbrev pub decreases-loop-start : goal.decreases-loop-start
-decreases-loop-start l = length l.bytes - l.start
+abbrev pub decreases-loop-length : goal.decreases-loop-length
+decreases-loop-length l = length l.rest

@@ -27,4 +27,4 @@ pub loop-n-preserved : goal.loop-n-preserved
 loop-n-preserved c = goes_again (turn (goal.at.loop-n-preserved c).After-step_record-stepped) _ _ c.in-Judged.is
 
 pub returns-in_default : goal.returns-in_default
-returns-in_default c = stops (turn (goal.at.returns-in_default c).After-step_record-stepped) c.in_default.not-Judged c.ending_at-ending.ensures
+returns-in_default c = stops (turn (goal.at.returns-in_default c).After-step_record-stepped) c.in_default.not-Judged c.ending_at.ensures

@@ -1,18 +1,11 @@
 -- `sheets::write_sheet` meets its contract: a sheet that is well formed is written as its record, where there is room for it. Assumes nothing.
-use mathlib.Core.Path.{sym, ◌∙◌}
-use native.Mathlib.Omega.{arith}
-use lib.Dec.{lit≤}
-use lib.ListN.{length}
+use Rattle.std.proofs.Common.{length, arith}
 use borrow.Author.Tests.{lt-ltb}
 use Rattle.sheets.specs.Sheets.{encode_sheet}
-use Rattle.sheets.proofs.Reading.{fields_placed}
 use Rattle.sheets.proofs.RoundTrip.{sheet_round_trip}
 use Rattle.sheets.proofs.write_sheet.Goals as goal
 
 pub returns-then-out-lt-SHEET : goal.returns-then-out-lt-SHEET
 returns-then-out-lt-SHEET c =
     let a = c.args in
-    rw (sym c.is_formed.ensures ∙ c.if-not-is_formed.false, lt-ltb (length a.out.now) (length (encode_sheet a.sheet)) (omega (arith, c.if-out-lt-SHEET.true, sheet_round_trip.size a.sheet)))
-
-pub write_record-requires : goal.write_record-requires
-write_record-requires c = (rw c.sheet_fields-fields.ensures (fields_placed c.args.sheet), lit≤ tt)
+    rw (← c.if-not-is_formed.ensures, lt-ltb (length a.out.now) (length (encode_sheet a.sheet)) (omega (arith, c.if-out-lt-SHEET.true, sheet_round_trip.size a.sheet)))

@@ -8,5 +8,5 @@ use Rattle.terminal.proofs.read_open.Goals as goal
 
 pub loop-done-preserved : goal.loop-done-preserved
 loop-done-preserved g c =
-    let read = Consumes-trans _ _ _ _ _ c.loop-done.invariant.2 c.in-Ok.ensures.bytes.0 in
-    (search rules, search rules, subst (Consumes _ _) (front-put_mid _ _ _ _ _ c.loop-done.invariant.1 c.in-Ok.ensures.bound.0) read)
+    let read = Consumes-trans _ _ _ _ _ c.loop-done.invariant.2 c.in_ok-n.ensures.bytes.0 in
+    (search rules, search rules, subst (Consumes _ _) (front-put_mid _ _ _ _ _ c.loop-done.invariant.1 c.in_ok-n.ensures.bound.0) read)

@@ -1,32 +1,13 @@
-use mathlib.Core.Path.{◌≡◌, sym}
-use mathlib.Core.Bool.{true}
-use Prim.Native.Nat.{◌-◌}
-use native.Mathlib.Omega.{arith}
-use borrow.Author.Tests.{eq-eqb, ne_eqb}
-use Rattle.rules.specs.Lists.{any}
-use Rattle.arrays.proofs.Scan.{scan_next, scan_stop, scan_end, any_hit, any-miss}
-use Rattle.holds.specs.Holds.{no_hold}
-use Rattle.holds.proofs.Holds.names_manifest.Invariants.{asked}
+use Rattle.std.proofs.Common.{rules, tests, ◌∙◌}
+use Rattle.std.proofs.lemmas.Iterator.Search.{any_from_yields_List}
+use Rattle.std.proofs.lemmas.Iterator.{YieldsList-from_slice}
+use lib.Dec.{eqb}
+use Rattle.rules.specs.declared.Hold.{Hold}
+use Rattle.rules.proofs.Listed.{any_listed}
+use Rattle.holds.specs.Holds.{holds_of}
 use Rattle.holds.proofs.Holds.names_manifest.Goals as goal
 
-pub returns-then-h-manifest : goal.returns-then-h-manifest
-returns-then-h-manifest c =
-    let a = c in
-    let s = a.args in
-    let h = a.loop-i.invariant in
-    scan_stop s.self.items s.self.count (asked s.manifest) h.4 no_hold (omega arith) (omega arith) true (any_hit _ _ _ (eq-eqb _ _ (sym c.if-h-manifest.true)))
-
-pub loop-i-preserved : goal.loop-i-preserved
-loop-i-preserved c =
-    let a = c in
-    let s = a.args in
-    let h = a.loop-i.invariant in
-    let ask = asked s.manifest in
-    (omega arith, h.1, h.2, h.3, scan_next s.self.items s.self.count ask h.4 no_hold (omega arith) (omega arith) ask (any-miss _ _ _ (ne_eqb _ _ (λ e. c.if-h-manifest.false (sym e)))))
-
 pub returns : goal.returns
-unfolding any
 returns c =
-    let s = c.args in
-    let e : c.loop-i.i ≡ s.self.count = omega arith in
-    scan_end s.self.items s.self.count (asked s.manifest) (rw e at c.loop-i.invariant.4)
+    any_from_yields_List (λ (h : Hold). eqb c.args.manifest h.manifest) _ _ _ c.any.ensures.ran (YieldsList-from_slice (holds_of c.args.self) cc) (λ x b q k. search (rules, tests))
+    ∙ any_listed _ _

@@ -14,15 +14,16 @@ use Rattle.ledger.proofs.View.{sound_parts}
 use Rattle.ledger.proofs.Door.{turned_away}
 use Rattle.ledger.proofs.Live.{live_laid, live-list, live-count}
 use Rattle.ledger.proofs.HoldSteps.{changed_laid, done, live-rising, inserted_length, hold-room}
+use Rattle.rules.proofs.Refusals.{not_0}
 use Rattle.ledger.proofs.Ledger.hold.Goals as goal
 
-pub returns-then-row-ne0 : goal.returns-then-row-ne0
-returns-then-row-ne0 c =
+pub returns-in-Err : goal.returns-in-Err
+returns-in-Err c =
     let w = c in
     let st = c in
     let s = st.args in
     c.refused.ensures
-    ∙ turned_away s.self s.time (HOLD s.hold s.manifest s.expiry) [] st.requires w.hold_row-row.result (w.hold_row-row.ensures s.expiry) c.if-row-ne0.true
+    ∙ turned_away s.self s.time (HOLD s.hold s.manifest s.expiry) [] st.requires _ (w.in-Err.ensures s.expiry) (not_0 c.in-Err.refusal)
 
 pub live-live-requires : goal.live-live-requires
 live-live-requires c = let st = c in holds.few st.args.self.holds (sound_parts st.args.self st.requires.is_sound).holds
@@ -38,7 +39,7 @@ insert-requires c =
       omega (
         arith,
         live-count s.self st.requires.is_sound s.time is,
-        hold-room (view s.self) s.time s.hold s.manifest s.expiry w.hold_row-row.result (w.hold_row-row.ensures s.expiry) n.if-row-ne0.false,
+        hold-room (view s.self) s.time s.hold s.manifest s.expiry _ (w.in_default.ensures s.expiry) refl,
       ),
       ap (λ (xs : List Hold). rising_above 0 (numbers xs)) (live-list s.self st.requires.is_sound s.time is) ∙ live-rising s.self st.requires.is_sound s.time,
     )
@@ -56,7 +57,7 @@ holding-self-requires c =
           (omega (
             arith,
             inserted_length s.self st.requires.is_sound s.time new,
-            hold-room (view s.self) s.time s.hold s.manifest s.expiry w.hold_row-row.result (w.hold_row-row.ensures s.expiry) n.if-row-ne0.false,
+            hold-room (view s.self) s.time s.hold s.manifest s.expiry _ (w.in_default.ensures s.expiry) refl,
           )),
     )
 
@@ -71,5 +72,5 @@ returns c =
     let s = st.args in
     let new : Hold = record { number = s.hold; manifest = s.manifest; expiry = s.expiry } in
     c.accepted.ensures
-    ∙ done s.time s.self (insert_hold new) a.live-live.ensures r.insert.ensures (HOLD s.hold s.manifest s.expiry) (λ q. refl) (λ q. refl) st.requires w.hold_row-row.result
-    (w.hold_row-row.ensures s.expiry) n.if-row-ne0.false c.holding-self.ensures
+    ∙ done s.time s.self (insert_hold new) a.live-live.ensures r.insert.ensures (HOLD s.hold s.manifest s.expiry) (λ q. refl) (λ q. refl) st.requires _
+    (w.in_default.ensures s.expiry) refl c.holding-self.ensures

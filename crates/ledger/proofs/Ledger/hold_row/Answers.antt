@@ -10,8 +10,8 @@ use Rattle.ledger.specs.Ledger.{view}
 use Rattle.ledger.proofs.View.{sound_parts}
 use Rattle.ledger.proofs.Live.{live-few, live-number, live-manifest, live-count}
 use Rattle.ledger.proofs.HoldSteps.{active-current, active-held, not-active, hold_there, hold_inactive, hold-full, hold-free}
-use Rattle.ledger.proofs.Ledger.hold_row.Goals.{After-has_number, Joined-manifest-current}
-use Rattle.ledger.proofs.Ledger.hold_row.Goals.{else-manifest-current, then-manifest-current+else-not-names_manifest}
+use Rattle.ledger.proofs.Ledger.hold_row.Goals.{After-has_number, Joined-else-manifest-current}
+use Rattle.ledger.proofs.Ledger.hold_row.Goals.{else-manifest-current-via-else-manifest-current, else-manifest-current-via-then-manifest-current+else-not-names_manifest}
 use Rattle.ledger.proofs.Ledger.hold_row.Goals as goal
 
 pub live-live-requires : goal.live-live-requires
@@ -55,7 +55,7 @@ returns-then-not-names_manifest c e =
     (sym (live-manifest s.self st.requires s.time a.live-live.ensures s.manifest) ∙ sym b.names_manifest.ensures ∙ c.if-not-names_manifest.true))
 
 -- the manifest is current, or a live hold names it
-is_active : (c : Joined-manifest-current)
+is_active : (c : Joined-else-manifest-current)
     → active c.args.time (view c.args.self)
     c.args.manifest ≡ true
 is_active c =
@@ -63,10 +63,10 @@ is_active c =
     let a = c in
     let st = c in
     let s = st.args in
-    (elim c.if-manifest-current.branch [
-      | then-manifest-current+else-not-names_manifest w ↦ active-held (view s.self) s.time s.manifest
+    (elim c.else-manifest-current.branch [
+      | else-manifest-current-via-then-manifest-current+else-not-names_manifest w ↦ active-held (view s.self) s.time s.manifest
           (sym (live-manifest s.self st.requires s.time a.live-live.ensures s.manifest) ∙ sym w.names_manifest.ensures ∙ w.if-not-names_manifest.false)
-      | else-manifest-current w ↦ active-current (view s.self) s.time s.manifest (w.if-manifest-current.false ∙ ap (λ (m : KeptManifest). m.number) cur.current-current.ensures)
+      | else-manifest-current-via-else-manifest-current w ↦ active-current (view s.self) s.time s.manifest (w.if-manifest-current.false ∙ ap (λ (m : KeptManifest). m.number) cur.current-current.ensures)
     ])
 
 pub returns-then-live-ge-HOLDS : goal.returns-then-live-ge-HOLDS
@@ -76,7 +76,7 @@ returns-then-live-ge-HOLDS c e =
     let a = c in
     let st = c in
     let s = st.args in
-    hold-full (view s.self) s.time s.manifest s.hold e (there (goal.at.returns-then-live-ge-HOLDS n).After-has_number ∙ n.if-has_number.false) (is_active (goal.at.returns-then-live-ge-HOLDS j).Joined-manifest-current)
+    hold-full (view s.self) s.time s.manifest s.hold e (there (goal.at.returns-then-live-ge-HOLDS n).After-has_number ∙ n.if-has_number.false) (is_active (goal.at.returns-then-live-ge-HOLDS j).Joined-else-manifest-current)
     (omega (arith, c.if-live-ge-HOLDS.true, live-count s.self st.requires s.time a.live-live.ensures))
 
 pub returns : goal.returns
@@ -86,5 +86,5 @@ returns c e =
     let a = c in
     let st = c in
     let s = st.args in
-    hold-free (view s.self) s.time s.manifest s.hold e (there (goal.at.returns n).After-has_number ∙ n.if-has_number.false) (is_active (goal.at.returns j).Joined-manifest-current)
+    hold-free (view s.self) s.time s.manifest s.hold e (there (goal.at.returns n).After-has_number ∙ n.if-has_number.false) (is_active (goal.at.returns j).Joined-else-manifest-current)
     (omega (arith, c.if-live-ge-HOLDS.false, live-count s.self st.requires s.time a.live-live.ensures))

@@ -1,6 +1,6 @@
 -- `Ledger::put` meets its contract: the object goes to its place in the ledger at that time.
 -- Assumes nothing.
-use mathlib.Core.Path.{ap, ◌∙◌}
+use mathlib.Core.Path.{refl, ap, ◌∙◌}
 use mathlib.Core.Bool.{false}
 use mathlib.Core.List.{[]}
 use borrow.Author.Tests.{leb-false}
@@ -17,14 +17,15 @@ use Rattle.ledger.specs.Ledger.{view}
 use Rattle.ledger.specs.Step.{answered_with}
 use Rattle.ledger.proofs.Door.{turned_away, taken}
 use Rattle.ledger.proofs.StoreSteps.{put-clear, put_comes}
+use Rattle.rules.proofs.Refusals.{not_0}
 use Rattle.ledger.proofs.Ledger.put.Goals as goal
 
-pub returns-then-row-ne0 : goal.returns-then-row-ne0
-returns-then-row-ne0 c =
+pub returns-in-Err : goal.returns-in-Err
+returns-in-Err c =
     let b = c in
     let st = c in
     let s = st.args in
-    c.refused.ensures ∙ turned_away s.self s.time (PUT s.role s.epoch s.object s.currency) [] st.requires _ (b.put_row-row.ensures s.time s.currency) c.if-row-ne0.true
+    c.refused.ensures ∙ turned_away s.self s.time (PUT s.role s.epoch s.object s.currency) [] st.requires _ (b.in-Err.ensures s.time s.currency) (not_0 c.in-Err.refusal)
 
 pub put-self-requires : goal.put-self-requires
 unfolding well_formed
@@ -34,7 +35,7 @@ put-self-requires c =
     let b = c in
     let st = c in
     let s = st.args in
-    let room = leb-false _ _ (put-clear (view s.self) s.time e.if-row-ne0.false s.role s.epoch s.object s.currency (b.put_row-row.ensures s.time s.currency)) in
+    let room = leb-false _ _ (put-clear (view s.self) s.time refl s.role s.epoch s.object s.currency (b.in_default.ensures s.time s.currency)) in
     rw d.settled-self.ensures (places.lay-laid s.self.objects.items, (conj-true _ st.requires.formed).1.0, room)
 
 pub returns : goal.returns
@@ -55,4 +56,4 @@ returns c =
       holds = (d.settled-self.ensures i).holds;
     }))
     ∙ put_comes s.self s.time s.role s.epoch s.object s.currency
-    ∙ taken s.self s.time (PUT s.role s.epoch s.object s.currency) [] st.requires _ (b.put_row-row.ensures s.time s.currency) e.if-row-ne0.false
+    ∙ taken s.self s.time (PUT s.role s.epoch s.object s.currency) [] st.requires _ (b.in_default.ensures s.time s.currency) refl

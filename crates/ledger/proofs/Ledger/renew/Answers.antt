@@ -13,14 +13,15 @@ use Rattle.ledger.proofs.View.{sound_parts}
 use Rattle.ledger.proofs.Door.{turned_away}
 use Rattle.ledger.proofs.Live.{live-few, live-short, live-rows}
 use Rattle.ledger.proofs.HoldSteps.{changed_laid, done}
+use Rattle.rules.proofs.Refusals.{not_0}
 use Rattle.ledger.proofs.Ledger.renew.Goals as goal
 
-pub returns-then-row-ne0 : goal.returns-then-row-ne0
-returns-then-row-ne0 c =
+pub returns-in-Err : goal.returns-in-Err
+returns-in-Err c =
     let w = c in
     let st = c in
     let s = st.args in
-    c.refused.ensures ∙ turned_away s.self s.time (RENEW s.hold s.expiry) [] st.requires w.live_row-row.result (w.live_row-row.ensures ∙ sym (live-rows (view s.self) s.time s.hold s.expiry).0) c.if-row-ne0.true
+    c.refused.ensures ∙ turned_away s.self s.time (RENEW s.hold s.expiry) [] st.requires _ (w.in-Err.ensures ∙ sym (live-rows (view s.self) s.time s.hold s.expiry).0) (not_0 c.in-Err.refusal)
 
 pub live-live-requires : goal.live-live-requires
 live-live-requires c = let st = c in holds.few st.args.self.holds (sound_parts st.args.self st.requires.is_sound).holds
@@ -48,5 +49,5 @@ returns c =
     let st = c in
     let s = st.args in
     c.accepted.ensures
-    ∙ done s.time s.self (map (renewed s.hold s.expiry)) a.live-live.ensures r.renew.ensures (RENEW s.hold s.expiry) (λ q. refl) (λ q. refl) st.requires w.live_row-row.result
-    (w.live_row-row.ensures ∙ sym (live-rows (view s.self) s.time s.hold s.expiry).0) a.if-row-ne0.false c.holding-self.ensures
+    ∙ done s.time s.self (map (renewed s.hold s.expiry)) a.live-live.ensures r.renew.ensures (RENEW s.hold s.expiry) (λ q. refl) (λ q. refl) st.requires _
+    (w.in_default.ensures ∙ sym (live-rows (view s.self) s.time s.hold s.expiry).0) refl c.holding-self.ensures

@@ -1,31 +1,12 @@
-use mathlib.Core.Path.{◌≡◌, sym, ◌∙◌}
-use mathlib.Core.Bool.{false}
-use Prim.Native.Nat.{◌-◌}
-use native.Mathlib.Omega.{arith}
-use Rattle.rules.specs.Lists.{all}
-use Rattle.arrays.proofs.Scan.{scan_next, scan_stop, scan_end, all_hit, all-miss}
-use Rattle.holds.specs.Holds.{no_hold}
-use Rattle.ledger.proofs.sound.holds_kept.Invariants.{asked}
+use Rattle.std.proofs.Common.{rules, tests, ◌∙◌, take}
+use Rattle.std.proofs.lemmas.Iterator.Search.{all_from_yields_List}
+use Rattle.std.proofs.lemmas.Iterator.{YieldsList-from_slice}
+use Rattle.rules.proofs.Listed.{all_listed}
+use Rattle.manifests.specs.Manifests.{manifests_of}
+use Rattle.ledger.specs.Parts.{hold_kept}
 use Rattle.ledger.proofs.sound.holds_kept.Goals as goal
 
-pub returns-then-not-has_number : goal.returns-then-not-has_number
-returns-then-not-has_number c =
-    let a = c in
-    let s = a.args in
-    let h = a.loop-i.invariant in
-    scan_stop s.holds.items s.holds.count (asked s.manifests) h.4 no_hold (omega arith) (omega arith) false (all-miss _ _ _ (sym c.has_number.ensures ∙ c.if-not-has_number.true))
-
-pub loop-i-preserved : goal.loop-i-preserved
-loop-i-preserved c =
-    let a = c in
-    let s = a.args in
-    let h = a.loop-i.invariant in
-    let ask = asked s.manifests in
-    (omega arith, h.1, h.2, h.3, scan_next s.holds.items s.holds.count ask h.4 no_hold (omega arith) (omega arith) ask (all_hit _ _ _ (sym c.has_number.ensures ∙ c.if-not-has_number.false)))
-
 pub returns : goal.returns
-unfolding all
 returns c =
-    let s = c.args in
-    let e : c.loop-i.i ≡ s.holds.count = omega arith in
-    scan_end s.holds.items s.holds.count (asked s.manifests) (rw e at c.loop-i.invariant.4)
+    all_from_yields_List (hold_kept (manifests_of c.args.manifests)) _ _ _ c.all.ensures.ran (YieldsList-from_slice (take c.args.holds.count c.args.holds.items) cc) (λ x b q k. search (rules, tests))
+    ∙ all_listed _ _

@@ -1,9 +1,8 @@
-use Prim.Native.Nat.{◌-◌}
-use native.Mathlib.Omega.{arith}
+use Rattle.std.proofs.Common.{arith}
 use lib.ListN.{replicate}
 use Rattle.rules.specs.Limits.{limits}
-use Rattle.manifests.specs.declared.KeptManifest.{KeptManifest}
 use Rattle.arrays.proofs.Lists.{copied_none, copied_next, copied_all}
+use Rattle.manifests.specs.declared.KeptManifest.{KeptManifest}
 use Rattle.manifests.specs.Manifests.{past_end}
 use Rattle.manifests.proofs.Places.{items_long}
 use Rattle.manifests.proofs.Manifests.names.Goals as goal

@@ -1,38 +1,42 @@
-use mathlib.Core.Path.{◌≡◌, refl, sym, ap, ◌∙◌}
-use Prim.Native.Nat.{◌-◌}
-use native.Mathlib.Omega.{arith}
-use borrow.Author.Tests.{eq-eqb, ne_eqb}
+use Rattle.std.proofs.Common.{rules, tests, ◌≡◌, refl, sym, ap, ap₂, ◌∙◌, Bool, true, false, cond, List, [], ◌∷◌, map, ℕ, Option, Some, None, arith}
+use Rattle.std.specs.Option.{MatchOption, unwrap_or}
+use Rattle.std.proofs.lemmas.Iterator.Search.{find_from_yields_List}
+use Rattle.std.proofs.lemmas.Iterator.{YieldsList-from_slice}
+use lib.Dec.{eqb}
+use Rattle.std.specs.List.{find}
 use Rattle.rules.specs.Lists.{lookup}
-use Rattle.arrays.proofs.Scan.{scan_next, scan_stop, scan_end, lookup_hit, lookup-miss}
-use Rattle.manifests.specs.Manifests.{lay_manifest, past_end}
-use Rattle.manifests.proofs.Places.{long, few, kept-formed}
-use Rattle.manifests.proofs.Manifests.numbered.Invariants.{asked}
+use Rattle.rules.specs.State.{Manifest, first_manifest}
+use Rattle.holds.proofs.Found.{lookup-find}
+use Rattle.manifests.specs.declared.KeptManifest.{KeptManifest}
+use Rattle.manifests.specs.Manifests.{lay_manifest, no_manifest, manifests_of}
+use Rattle.manifests.proofs.Places.{long, first-laid, kept_same}
 use Rattle.manifests.proofs.Manifests.numbered.Goals as goal
 
-pub loop-i-init : goal.loop-i-init
-loop-i-init c = (omega arith, few c.args.self c.requires, refl, (long c.args.self _ c.well_formed.0).items, refl)
+-- looking up a place is laying out what is looked up
+lookup_laid : (n : ℕ) (ms : List Manifest)
+    → lookup (λ (m : KeptManifest). m.number) (λ m. m) (lay_manifest first_manifest) n (map lay_manifest ms) ≡ lay_manifest (lookup (λ (m : Manifest). m.number) (λ m. m) first_manifest n ms)
+unfolding lookup
+lookup_laid n [] = refl
+lookup_laid n (m ∷ ms) = step (eqb n m.number) _ _ (lookup_laid n ms)
+  where
+    step : (b : Bool) (x : KeptManifest) (y : Manifest) → x ≡ lay_manifest y → cond b (lay_manifest m) x ≡ lay_manifest (cond b m y)
+    step true x y e = refl
+    step false x y e = e
 
-pub returns-then-m-number : goal.returns-then-m-number
-returns-then-m-number c =
-    let a = c in
-    let b = c in
-    let s = b.args in
-    let h = a.loop-i.invariant in
-    let found = scan_stop s.self.items s.self.count (asked s.number) h.4 past_end (omega arith) (omega arith) _ (lookup_hit _ _ _ _ _ _ (eq-eqb _ _ (sym c.if-m-number.true))) in
-    sym (kept-formed s.self (long s.self _ b.well_formed.0) b.requires a.loop-i.i (omega arith)) ∙ ap lay_manifest found
-
-pub loop-i-preserved : goal.loop-i-preserved
-loop-i-preserved c =
-    let a = c in
-    let s = a.args in
-    let h = a.loop-i.invariant in
-    let ask = asked s.number in
-    (omega arith, h.1, h.2, h.3, scan_next s.self.items s.self.count ask h.4 past_end (omega arith) (omega arith) ask (lookup-miss _ _ _ _ _ _ (ne_eqb _ _ (λ e. c.if-m-number.false (sym e)))))
+unwrapped : (o : Option KeptManifest) (d : KeptManifest) → MatchOption o (unwrap_or o d ≡ d) (λ m. unwrap_or o d ≡ m)
+unwrapped None d = refl
+unwrapped (Some m) d = refl
 
 pub returns : goal.returns
-unfolding lookup
 returns c =
-    let a = c in
-    let s = a.args in
-    let e : a.loop-i.i ≡ s.self.count = omega arith in
-    c.zero.ensures ∙ ap lay_manifest (scan_end s.self.items s.self.count (asked s.number) (rw e at a.loop-i.invariant.4))
+    let s = c.args.self in
+    let n = c.args.number in
+    let kept = c.kept.result.now in
+    let this : KeptManifest → Bool = λ m. eqb n m.number in
+    let found : c.copied.result ≡ find this kept =
+    c.copied.ensures ∙ find_from_yields_List this _ _ c.find.result c.find.ensures.ran (YieldsList-from_slice kept cc) (λ x b q k. search (rules, tests)) in
+    c.unwrap_or.ensures ∙ ap (λ (o : Option KeptManifest). unwrap_or o no_manifest) found
+    ∙ lookup-find (λ (m : KeptManifest). m.number) (λ m. m) no_manifest n _ kept (unwrapped _ no_manifest)
+    ∙ ap₂ (λ (d : KeptManifest) (l : List KeptManifest). lookup (λ (m : KeptManifest). m.number) (λ m. m) d n l) (sym first-laid)
+    (c.kept.ensures ∙ sym (kept_same s (long s _ c.well_formed.0) c.requires s.count (omega arith)))
+    ∙ lookup_laid n (manifests_of s)

@@ -3,7 +3,6 @@
 use Rattle.std.proofs.Common.{◌≡◌, length, length-take, sym, arith, rules}
 use Rattle.rules.specs.Limits.{limits}
 use Rattle.records.proofs.Listed.{said-room}
-use Rattle.records.proofs.Tables.{step_placed}
 use Rattle.records.proofs.steps.write_step.Goals as goal
 
 pub shared_ref_as_front-names : goal.shared_ref_as_front-names
@@ -16,4 +15,4 @@ pub write_record-requires : goal.write_record-requires
 write_record-requires c =
     let step = c.args.step in
     let long : length step.list.names ≡ limits.names = search rules in
-    (rw c.step_fields-fields.ensures (step_placed step.time step.kind), simp length-take (omega arith))
+    simp length-take (omega arith)

@@ -1,9 +1,9 @@
 use Rattle.std.proofs.Common.{◌*◌, ◌≤◌, get_or, arith}
 use Rattle.std.proofs.lemmas.List.{drop_more, drop_all}
 use Rattle.rules.specs.Limits.{limits}
-use Rattle.records.specs.Format.{inner}
-use Rattle.records.specs.Found.{is_narrow, fields_in}
-use Rattle.records.proofs.Places.{all-taken}
+use Rattle.records.specs.Format.{inner, is_narrow}
+use Rattle.records.specs.Found.{fields_in}
+use Rattle.records.proofs.Places.{all-at}
 use Rattle.records.proofs.Pieces.{bytes-none, length_cons, content-short}
 use Rattle.records.proofs.writing.size_of.Goals.{After-content_size}
 use Rattle.records.proofs.writing.size_of.Goals as goal
@@ -12,8 +12,8 @@ use Rattle.records.proofs.writing.size_of.Goals as goal
 short : (c : After-content_size) → c.content_size.result ≤ 8 * limits.places
 short c =
     let a = c.args in
-    let narrow = all-taken is_narrow a.fields.items a.fields.count c.loop-f.f-index (inner 0 0 0) c.requires.0.narrow c.loop-f-test.true in
-    omega (arith, c.content_size.ensures, content-short a.list.now (get_or (fields_in a.fields) c.loop-f.f-index (inner 0 0 0)) narrow c.requires.1)
+    let narrow = all-at is_narrow (fields_in a.fields) c.loop-f.f-index (inner 0 0 0) a.fields.narrow c.loop-f-test.true in
+    omega (arith, c.content_size.ensures, content-short a.list.now (get_or (fields_in a.fields) c.loop-f.f-index (inner 0 0 0)) narrow c.requires)
 
 pub overflow_add-size : goal.overflow_add-size
 overflow_add-size c = omega (arith, short c)
