@@ -4,13 +4,12 @@ use Rattle.std.proofs.Common.{◌≡◌, ℕ, ◌+◌, List, Some, None, length,
 use borrow.Author.Tests.{ne_eqb}
 use Rattle.rules.specs.Lists.{conj}
 use Rattle.rules.specs.Limits.{limits, manifest_limit}
-use Rattle.manifests.specs.declared.KeptManifest.{KeptManifest}
+use Rattle.arrays.proofs.Lists.{pad-none}
 use Rattle.manifests.specs.declared.Manifests.{Manifests}
 use Rattle.manifests.specs.Manifests.{no_manifest, lay_manifests}
 use Rattle.manifests.proofs.Places.{first-laid, first_items}
 use Rattle.holds.specs.declared.Holds.{Holds}
-use Rattle.holds.specs.Holds.{lay_holds}
-use Rattle.holds.proofs.Places.{none_items}
+use Rattle.holds.specs.Holds.{no_hold, lay_holds}
 use Rattle.ledger.specs.declared.Ledger.{Ledger}
 use Rattle.image.specs.Rows.{rows_from}
 use Rattle.image.specs.Format.{edition_row, clock_row, collected_row, edition}
@@ -54,7 +53,7 @@ module _ (c : After-read_packed-held) where
   held : (◌≡◌ {A = Holds} (record { count = c.read_packed-held.result.value; items = c.read_packed-held.new.places }) (lay_holds (holds_of (drop (holds_begin s) s)).values))
       × (c.read_packed-held.result.size ≡ (holds_of (drop (holds_begin s) s)).size)
   held =
-      let none = none_items (ap (λ (l : Ledger). l.holds) c.fresh-ledger.ensures) in
+      let none : c.fresh-ledger.result.holds.items ≡ replicate limits.holds no_hold = ap (λ (l : Ledger). l.holds.items) c.fresh-ledger.ensures ∙ pad-none limits.holds no_hold in
       let rest = tail (rows_begin + c.read_objects-kept_at.result + c.read_packed-kept.result.size) s ∙ ap (λ (n : ℕ). drop n s) held_at in
       filled_holds (drop (holds_begin s) s) none (rw rest at c.read_packed-held.ensures.filled)
 
