@@ -1,7 +1,7 @@
 -- What the type of the objects and their layout tell of the places, and what each place adds to what is asked of them.
 -- Assumes nothing.
 use mathlib.Core.Path.{◌≡◌, refl, sym, ap, ap₂, ◌∙◌, subst}
-use mathlib.Core.Logic.{⊎_elim}
+use mathlib.Core.Logic.{◌⊎◌, ⊎_elim}
 use mathlib.Core.Bool.{Bool, true, false, not, cond, ◌&&◌, ◌||◌, false≢true, and-true, and-false}
 use mathlib.Core.List.Memᴰ
 use mathlib.Core.List.{List, [], ◌∷◌, ◌++◌, map}
@@ -14,7 +14,6 @@ use lib.ListN.{length, take, drop, get_or, set, length-map, take-append-drop}
 use lib.Seq.{take-suc, drop-cons}
 use mir.Val.{Val}
 use denote.Laws.{Is}
-use denote.Struct.Field.{u64-field}
 use Rattle.rules.specs.declared.Object.{Object}
 use Rattle.rules.specs.Limits.{limits, word_count, word_bits}
 use Rattle.rules.specs.Lists.{◌∈◌, keep, any, has, lookup, distinct}
@@ -24,7 +23,6 @@ use Rattle.rules.specs.Table.{nonzero}
 use Rattle.rules.proofs.Lists.{and_left, and_right, and_both, or_left, or_right, or_false-left, or_false_right, any_same}
 use Rattle.rules.proofs.Laws
 use Rattle.rules.proofs.Numbers.{has_in}
-use Rattle.rules.specs.contracts.Object as object
 use Rattle.arrays.proofs.Lists.{keep_append, keep-kept, keep_left, any_append, any-keep, and_any, any-map, map-set}
 use Rattle.objects.specs.declared.Objects.{Objects}
 use Rattle.objects.specs.Occupancy.{words_of, flags_of, used, lowest_free, with_flag, ByWords}
@@ -56,9 +54,9 @@ not_sought n = step (eqb n 0)
     step true = refl
     step false = refl
 
-pub stored-among : (os : List Object) (n : ℕ) → stored_in os n ≡ among (numbers_at os) n
+pub stored_among : (os : List Object) (n : ℕ) → stored_in os n ≡ among (numbers_at os) n
 unfolding among has
-stored-among os n =
+stored_among os n =
     any-keep (λ (o : Object). eqb n o.number) occupied os
     ∙ any_same _ _ os (λ o i. same_test nonzero n o.number)
     ∙ sym (ap (λ (b : Bool). nonzero n && b) (any-map (λ (o : Object). o.number) (eqb n) os) ∙ and_any (λ (o : Object). eqb n o.number) (nonzero n) os)
@@ -74,6 +72,13 @@ named-among os n =
     step : (o : Object) (b : Bool) → (occupied o && (eqb n o.number && b)) ≡ (nonzero n && eqb n (cond b o.number 0))
     step o true = ap (λ (b : Bool). occupied o && b) (and-true (eqb n o.number)) ∙ same_test nonzero n o.number
     step o false = ap (λ (b : Bool). occupied o && b) (and-false (eqb n o.number)) ∙ and-false (occupied o) ∙ sym (not_sought n)
+
+-- nothing stands beside a number where there is no number, or no currency
+pub beside_none : (ns cs : List ℕ) (n : ℕ) → (length ns ≡ 0) ⊎ (length cs ≡ 0) → beside ns cs n ≡ 0
+unfolding beside
+beside_none [] cs n h = refl
+beside_none (m ∷ ms) [] n h = refl
+beside_none (m ∷ ms) (c ∷ cs) n h = ⊎_elim (λ e. absurd (omega arith)) (λ e. absurd (omega arith)) h
 
 -- the currency beside a number that is not a free place's
 currency-beside : (n : ℕ) → nonzero n ≡ true → (os : List Object) → beside (numbers_at os) (currencies_at os) n ≡ currency_in os n
@@ -120,10 +125,10 @@ pair_long ps n c =
 
 -- Distinct numbers
 
-pub numbers-kept : (os : List Object) → numbers_in os ≡ keep nonzero (numbers_at os)
+pub numbers_kept : (os : List Object) → numbers_in os ≡ keep nonzero (numbers_at os)
 unfolding keep
-numbers-kept [] = refl
-numbers-kept (o ∷ os) = step (occupied o) (numbers-kept os)
+numbers_kept [] = refl
+numbers_kept (o ∷ os) = step (occupied o) (numbers_kept os)
   where
     step : (b : Bool) → numbers_in os ≡ keep nonzero (numbers_at os)
         → numbers_at (cond b (o ∷ keep occupied os) (keep occupied os)) ≡ cond b (o.number ∷ keep nonzero (numbers_at os)) (keep nonzero (numbers_at os))
@@ -166,25 +171,25 @@ module _ (ns : List ℕ) (i : ℕ) (h : i < length ns) where
   abbrev number : ℕ
   number = get_or ns i 0
 
-  pub distinct-next : among (take i ns) number ≡ false → distinct (keep nonzero (take i ns)) ≡ true → distinct (keep nonzero (take (i + 1) ns)) ≡ true
+  distinct-next : among (take i ns) number ≡ false → distinct (keep nonzero (take i ns)) ≡ true → distinct (keep nonzero (take (i + 1) ns)) ≡ true
   distinct-next e d = step (nonzero number) refl
     where
       step : (b : Bool) → nonzero number ≡ b → distinct (keep nonzero (take (i + 1) ns)) ≡ true
       step true q = ap distinct (keep-kept nonzero ns i 0 h q) ∙ distinct_more number (keep nonzero (take i ns)) d (has_kept number (take i ns) ∙ e)
       step false q = ap distinct (keep_left nonzero ns i 0 h q) ∙ d
 
-  pub distinct-not : among (take i ns) number ≡ true → distinct (keep nonzero ns) ≡ false
+  pub distinct_not : among (take i ns) number ≡ true → distinct (keep nonzero ns) ≡ false
   unfolding keep among
-  distinct-not e =
+  distinct_not e =
       let some : nonzero number ≡ true = and_left (nonzero number) (has number (take i ns)) e in
       ap (λ (l : List ℕ). distinct (keep nonzero l)) (sym (take-append-drop i ns) ∙ ap (λ (l : List ℕ). take i ns ++ l) (drop-cons ns i 0 h))
       ∙ ap distinct (keep_append nonzero (take i ns) (number ∷ drop (suc i) ns) ∙ ap (λ (b : Bool). keep nonzero (take i ns) ++ cond b (number ∷ keep nonzero (drop (suc i) ns)) (keep nonzero (drop (suc i) ns))) some)
       ∙ distinct_twice number (keep nonzero (take i ns)) (keep nonzero (drop (suc i) ns)) (has_kept number (take i ns) ∙ e)
 
 -- a number that stands behind a place stands there
-pub among-behind : (n i : ℕ) (ns : List ℕ) → has n (drop i ns) ≡ true → has n ns ≡ true
+pub among_behind : (n i : ℕ) (ns : List ℕ) → has n (drop i ns) ≡ true → has n ns ≡ true
 unfolding has
-among-behind n i ns e = ap (any (eqb n)) (sym (take-append-drop i ns)) ∙ any_append (eqb n) (take i ns) (drop i ns) ∙ or_right (has n (take i ns)) (has n (drop i ns)) e
+among_behind n i ns e = ap (any (eqb n)) (sym (take-append-drop i ns)) ∙ any_append (eqb n) (take i ns) (drop i ns) ∙ or_right (has n (take i ns)) (has n (drop i ns)) e
 
 -- Places passed by whoever asks whether numbers are distinct: so far they are, and none is above the highest
 pub record Passed (ns : List ℕ) (i highest : ℕ) : Type 0 where

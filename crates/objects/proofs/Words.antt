@@ -5,20 +5,23 @@ use mathlib.Core.Bool.{Bool, true, false, cond}
 use mathlib.Core.List.{List, [], ◌∷◌, ◌++◌}
 use Prim.Native.Nat.{ℕ, zero, suc, ◌+◌, ◌-◌, ◌*◌, ◌/◌, ◌%◌, ◌^◌, ◌≤◌, ◌<◌}
 use native.Mathlib.Nat.{pow-suc, mod-eq_of_lt, mod-lt, div-add-mod, div-lt_iff_lt-mul, zero-mul, suc-mul, mul-zero, mul-suc}
+use native.Mathlib.Numerals.{add-one}
 use native.Mathlib.Omega.{arith}
 use lib.Dec.{eqb}
 use lib.Pow.{pow_pos, pow-lt}
 use lib.Bits.{bit_and, bit_or, and_step, or_step, or_zero_r, and_mask}
 use lib.Count.{ones, ones_step, count_trailing_zeros}
-use lib.ListN.{length, take, drop, get_or, set, length-drop, take-append-drop}
-use lib.Seq.{length-take-le, take-set-lt, take-set-le, drop-set-lt, drop-set-add}
+use lib.ListN.{length, take, drop, get_or, set, length-drop, take-append-drop, drop_of_length-le}
+use lib.Seq.{length-take-le, take-set-lt, take-set-le, drop-cons, drop-set-lt, drop-set-add}
+use Rattle.std.specs.List.{sum_by}
+use Rattle.std.proofs.lemmas.List.Sums.{sum_by-cons}
 use Rattle.objects.specs.Occupancy.{word, flags, words_of, flags_of, lowest_free, used, with_flag, OccupancyByWords}
 
 -- a flag as a digit
 abbrev digit : Bool → ℕ
 digit b = cond b 1 0
 
-digit_le : (b : Bool) → digit b ≤ 1
+pub digit_le : (b : Bool) → digit b ≤ 1
 digit_le true = omega arith
 digit_le false = omega arith
 
@@ -114,11 +117,11 @@ and_bit (b ∷ bs) (suc i) h =
 
 -- ---- the same of a word of k bits and its flags, as the code has them
 module _ (k w : ℕ) (h : w < 2 ^ k) where
-  pub ones-flags : ones w ≡ used (flags k w)
-  ones-flags = ap ones (sym (word_flags k w h)) ∙ ones-word (flags k w)
+  pub ones_flags : ones w ≡ used (flags k w)
+  ones_flags = ap ones (sym (word_flags k w h)) ∙ ones-word (flags k w)
 
-  pub lowest-flags : count_trailing_zeros k ((2 ^ k - 1) - w) ≡ lowest_free (flags k w)
-  lowest-flags =
+  pub lowest_flags : count_trailing_zeros k ((2 ^ k - 1) - w) ≡ lowest_free (flags k w)
+  lowest_flags =
       ap₂ (λ (j x : ℕ). count_trailing_zeros j ((2 ^ j - 1) - x)) (sym (length-flags k w)) (sym (word_flags k w h)) ∙ lowest-word (flags k w)
 
   -- 1 << i
@@ -136,11 +139,6 @@ module _ (k w : ℕ) (h : w < 2 ^ k) where
       ∙ and_bit (flags k w) i (omega (arith, length-flags k w))
 
 -- ---- a store that is not full has a free place
-pub used_le : (bs : List Bool) → used bs ≤ length bs
-unfolding used
-used_le [] = omega arith
-used_le (b ∷ bs) = omega (arith, used_le bs, digit_le b)
-
 pub free-place : (bs : List Bool) → used bs < length bs → lowest_free bs < length bs
 unfolding used lowest_free
 free-place [] h = omega arith
@@ -205,9 +203,11 @@ unfolding used
 used-append [] ys = omega arith
 used-append (x ∷ xs) ys = omega (arith, used-append xs ys)
 
-pub used-next : (k w : ℕ) (ws : List ℕ) → used (flags_of k (w ∷ ws)) ≡ used (flags k w) + used (flags_of k ws)
-unfolding flags_of
-used-next k w ws = used-append (flags k w) (flags_of k ws)
+-- the used places of words are those of each
+pub used_by_words : (k : ℕ) (ws : List ℕ) → used (flags_of k ws) ≡ sum_by (λ w. used (flags k w)) ws
+unfolding used flags_of
+used_by_words k [] = refl
+used_by_words k (w ∷ ws) = used-append (flags k w) (flags_of k ws) ∙ rw (used_by_words k ws) (sym (sum_by-cons (λ w. used (flags k w)) w ws))
 
 lowest-here : (xs ys : List Bool) → lowest_free xs < length xs → lowest_free (xs ++ ys) ≡ lowest_free xs
 unfolding lowest_free
@@ -221,11 +221,24 @@ lowest-past [] ys h = omega arith
 lowest-past (true ∷ xs) ys h = omega (arith, lowest-past xs ys (omega arith))
 lowest-past (false ∷ xs) ys h = omega arith
 
-module _ (k w : ℕ) (ws : List ℕ) where
-  pub lowest-found : lowest_free (flags k w) < k → lowest_free (flags_of k (w ∷ ws)) ≡ lowest_free (flags k w)
-  unfolding flags_of
-  lowest-found h = lowest-here (flags k w) (flags_of k ws) (omega (arith, length-flags k w))
+-- a loop over words of k bits, at word i
+module _ (k : ℕ) (ws : List ℕ) (i : ℕ) (here : i < length ws) where
+  abbrev at : List Bool
+  at = flags k (get_or ws i 0)
 
-  pub lowest-full : k ≤ lowest_free (flags k w) → lowest_free (flags_of k (w ∷ ws)) ≡ k + lowest_free (flags_of k ws)
+  next : flags_of k (drop i ws) ≡ at ++ flags_of k (drop (i + 1) ws)
   unfolding flags_of
-  lowest-full h = lowest-past (flags k w) (flags_of k ws) (omega (arith, length-flags k w)) ∙ ap (λ (n : ℕ). n + lowest_free (flags_of k ws)) (length-flags k w)
+  next = rw (add-one, drop-cons ws i 0 here)
+
+  -- the word has a free place
+  pub lowest_found : lowest_free at < k → lowest_free (flags_of k (drop i ws)) ≡ lowest_free at
+  lowest_found h = ap lowest_free next ∙ lowest-here at _ (omega (arith, length-flags k (get_or ws i 0)))
+
+  -- it has none
+  pub lowest_full : k ≤ lowest_free at → lowest_free (flags_of k (drop i ws)) ≡ k + lowest_free (flags_of k (drop (i + 1) ws))
+  lowest_full h = ap lowest_free next ∙ lowest-past at _ (omega (arith, length-flags k (get_or ws i 0))) ∙ ap (λ (n : ℕ). n + lowest_free (flags_of k (drop (i + 1) ws))) (length-flags k (get_or ws i 0))
+
+-- behind the last word there is no place
+pub lowest_none : (k : ℕ) (ws : List ℕ) (i : ℕ) → length ws ≤ i → lowest_free (flags_of k (drop i ws)) ≡ 0
+unfolding flags_of lowest_free
+lowest_none k ws i h = rw (drop_of_length-le ws {i = i} h)

@@ -11,44 +11,42 @@ pub(crate) fn word_of(numbers: &[u64]) -> u64
     requires { length numbers.now ≤ word_bits }
     ensures { result ≡ word (map nonzero numbers.now) }
 {
-    let mut word: u64 = 0;
-    let mut i = numbers.len();
-    while 0 < i {
-        i -= 1;
-        let bit: u64 = if numbers[i] == 0 { 0 } else { 1 };
-        word = word * 2 + bit;
+    let mut word = 0;
+    for number in numbers.iter().rev() {
+        word = word * 2 + u64::from(*number != 0);
     }
     word
 }
 
 // The lowest free place of a word: trailing zeros of the inverted word.
+#[tactic(auto, using(crate::proofs::Words::lowest_flags))]
 fn lowest_in(bits: u64) -> usize
     ensures { result ≡ lowest_free (flags word_bits bits) }
 {
-    u64::trailing_zeros(!bits) as usize
+    (!bits).trailing_zeros() as usize
 }
 
 // The lowest free place, counted across the words in order; the number of places where none is free.
+#[tactic(auto, using(crate::proofs::Words::lowest_found, crate::proofs::Words::lowest_full, crate::proofs::Words::lowest_none))]
 pub(crate) fn lowest_free(words: &[u64]) -> usize
     requires { length words.now ≤ word_count }
     ensures { result ≡ lowest_free (flags_of word_bits words.now) }
 {
-    let mut k: usize = 0;
-    while k < words.len() {
-        let free = lowest_in(words[k]);
+    for (k, word) in words.iter().enumerate() {
+        let free = lowest_in(*word);
         if free < BITS {
             return k * BITS + free;
         }
-        k += 1;
     }
-    k * BITS
+    words.len() * BITS
 }
 
 // How many places of a word are taken.
+#[tactic(auto, using(crate::proofs::Words::ones_flags))]
 fn taken_in(bits: u64) -> u32
     ensures { result ≡ used (flags word_bits bits) }
 {
-    u64::count_ones(bits)
+    bits.count_ones()
 }
 
 // How many places are taken.
@@ -56,13 +54,7 @@ pub(crate) fn count_taken(words: &[u64]) -> usize
     requires { length words.now ≤ word_count }
     ensures { result ≡ used (flags_of word_bits words.now) }
 {
-    let mut count: usize = 0;
-    let mut k: usize = 0;
-    while k < words.len() {
-        count += taken_in(words[k]) as usize;
-        k += 1;
-    }
-    count
+    words.iter().map(|word| taken_in(*word) as usize).sum()
 }
 
 // The word with the bit of a place set.
@@ -82,6 +74,7 @@ fn without_bit(bits: u64, at: usize) -> u64
 }
 
 // The bit of a place is set.
+#[tactic(auto, unfolding(crate::specs::Occupancy::with_flag))]
 pub fn set_bit(words: &mut [u64], at: usize)
     requires { at < length words.old * word_bits }
     ensures { words.new ≡ with_flag word_bits true at words.old }
@@ -91,6 +84,7 @@ pub fn set_bit(words: &mut [u64], at: usize)
 }
 
 // The bit of a place is cleared.
+#[tactic(auto, unfolding(crate::specs::Occupancy::with_flag))]
 pub fn clear_bit(words: &mut [u64], at: usize)
     requires { at < length words.old * word_bits }
     ensures { words.new ≡ with_flag word_bits false at words.old }

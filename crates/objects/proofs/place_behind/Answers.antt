@@ -1,35 +1,40 @@
-use mathlib.Core.Path.{sym, ap, ◌∙◌}
-use Prim.Native.Nat.{suc, ◌-◌}
-use native.Mathlib.Numerals.{add-one}
+-- `place_behind` meets its contract.
+-- Assumes nothing.
+use mathlib.Core.Path.{◌≡◌, refl, ap, ◌∙◌}
+use mathlib.Core.Bool.{Bool, true, false, not, cond, ◌||◌}
+use mathlib.Core.List.{List, [], ◌∷◌}
+use Prim.Native.Nat.{ℕ, suc, ◌+◌}
 use native.Mathlib.Omega.{arith}
-use borrow.Author.Tests.{eq-eqb, ne_eqb, lt-ltb, le-ltb}
-use lib.Dec.{eqb}
-use lib.ListN.{length, drop, get_or, drop_of_length-le}
-use lib.Seq.{drop-cons}
+use lib.Dec.{eqb, ltb}
+use lib.ListN.{length, drop, length-drop}
+use lib.Seq.{take_all}
+use Rattle.std.proofs.Common.{rules, tests, is_some, Some, None}
+use Rattle.std.proofs.lemmas.Bool.Decides.{nat_tests}
+use Rattle.std.proofs.lemmas.Iterator.{YieldsList-from_slice}
+use Rattle.std.proofs.lemmas.Iterator.Search.{position_from_yields_List}
+use Rattle.std.specs.List.{position_or_len}
 use Rattle.rules.specs.Lists.{any, has}
-use Rattle.arrays.proofs.Scan.{any_hit, any-miss}
 use Rattle.objects.proofs.place_behind.Goals as goal
 
-pub returns-then-numbers-i : goal.returns-then-numbers-i
-unfolding has
-returns-then-numbers-i c =
-    let ns = c.args.numbers.now in
-    let n = c.args.number in
-    let i = c.loop-i.i in
-    lt-ltb i (length ns) (omega arith) ∙ sym (any_hit (eqb n) (get_or ns i 0) (drop (suc i) ns) (eq-eqb n (get_or ns i 0) (sym c.if-numbers-i.true))) ∙ ap (any (eqb n)) (sym (drop-cons ns i 0 (omega arith))) ∙ c.loop-i.invariant.1
+-- there is a first element that passes where one passes
+position-any : (p : ℕ → Bool) (xs : List ℕ) → ltb (position_or_len p xs) (length xs) ≡ any p xs
+unfolding any
+position-any p [] = refl
+position-any p (x ∷ xs) = step (p x) (position-any p xs)
+  where
+    step : (b : Bool) → ltb (position_or_len p xs) (length xs) ≡ any p xs → ltb (cond (not b) (1 + position_or_len p xs) 0) (suc (length xs)) ≡ (b || any p xs)
+    step true e = grind (arith, nat_tests)
+    step false e = grind (arith, nat_tests, e)
 
-pub loop-i-preserved : goal.loop-i-preserved
-unfolding has
-loop-i-preserved c =
-    let ns = c.args.numbers.now in
-    let n = c.args.number in
-    let i = c.loop-i.i in
-    (omega arith, rw add-one (sym (any-miss (eqb n) (get_or ns i 0) (drop (suc i) ns) (ne_eqb n (get_or ns i 0) (λ e. c.if-numbers-i.false (sym e)))) ∙ ap (any (eqb n)) (sym (drop-cons ns i 0 (omega arith))) ∙ c.loop-i.invariant.1))
+chosen : (b : Bool) (i : ℕ) → is_some (cond b (Some i) None) ≡ b
+chosen true i = refl
+chosen false i = refl
 
-pub returns : goal.returns
-unfolding has any
-returns c =
-    let ns = c.args.numbers.now in
-    let n = c.args.number in
-    let i = c.loop-i.i in
-    le-ltb i (length ns) (omega arith) ∙ ap (any (eqb n)) (sym (drop_of_length-le ns {i = i} (omega arith))) ∙ c.loop-i.invariant.1
+pub returns-clause-found : goal.returns-clause-found
+unfolding has
+returns-clause-found c =
+    let behind = drop c.args.from c.args.numbers.now in
+    let rest : c.iter.result.rest.now ≡ behind = c.iter.ensures.rest ∙ take_all _ _ (omega (arith, length-drop c.args.from c.args.numbers.now)) in
+    c.map.ensures.variant
+    ∙ ap is_some (position_from_yields_List (eqb c.args.number) _ _ c.position.result c.position.ensures.ran (YieldsList-from_slice behind rest) (λ x b q k. search (rules, tests)))
+    ∙ chosen _ _ ∙ position-any (eqb c.args.number) behind

@@ -1,22 +1,12 @@
--- `Objects::highest` meets its contract: the best so far, and what is left.
+-- `Objects::highest` meets its contract: the higher of the best so far and the highest that is left is what is asked.
 -- Assumes nothing.
 use mathlib.Core.Path.{◌≡◌}
-use mathlib.Core.List.{List}
-use Prim.Native.Nat.{ℕ, ◌-◌, ◌≤◌, max}
-use lib.Dec.{eqb}
-use lib.ListN.{length}
-use lib.Seq.{slice}
-use Rattle.rules.specs.Lists.{keep, maximum}
-use Rattle.objects.specs.Objects.{currency_among}
+use Prim.Native.Nat.{max}
+use lib.ListN.{drop}
+use Rattle.rules.specs.Lists.{maximum}
+use Rattle.objects.specs.Objects.{of_currency_in}
 use Rattle.objects.proofs.Objects.highest.Given as goal
 
--- the highest of what was found and what is left
-abbrev pub asked : List ℕ → List ℕ → ℕ → ℕ → List ℕ → ℕ
-asked ns cs c best l = max best (maximum (keep (λ n. eqb (currency_among ns cs n) c) l))
-
-abbrev pub invariant-loop-i : goal.invariant-loop-i
-invariant-loop-i l =
-    (l.i ≤ length l.list) × (length l.numbers ≤ length l.currencies) × (asked l.numbers l.currencies l.currency l.best (slice l.i (length l.list) l.list) ≡ asked l.numbers l.currencies l.currency 0 l.list)
-
-abbrev pub decreases-loop-i : goal.decreases-loop-i
-decreases-loop-i l = length l.list - l.i
+abbrev pub invariant-loop-name : goal.invariant-loop-name
+invariant-loop-name l =
+    max l.best (maximum (of_currency_in l.fn.self.items l.currency (drop l.name-index l.list))) ≡ maximum (of_currency_in l.fn.self.items l.currency l.list)

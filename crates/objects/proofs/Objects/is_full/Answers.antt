@@ -3,13 +3,12 @@
 use mathlib.Core.Path.{◌≡◌, ap, ◌∙◌}
 use Prim.Native.Nat.{ℕ, ◌≤◌}
 use native.Mathlib.Omega.{arith}
-use borrow.Author.Tests.{eq-eqb, eqb-true, le-leb, leb-true}
 use lib.Dec.{eqb, leb}
 use lib.ListN.{length}
+use Rattle.std.proofs.lemmas.Bool.Decides.{nat_tests}
 use Rattle.rules.specs.Limits.{limits}
 use Rattle.rules.specs.Lists.{keep}
 use Rattle.rules.specs.State.{occupied}
-use Rattle.rules.proofs.Lists.{bool_ext}
 use Rattle.rules.proofs.Numbers.{keep-length}
 use Rattle.objects.specs.Occupancy.{used}
 use Rattle.objects.proofs.Places.{items_long, laid-flags, used-length}
@@ -17,7 +16,7 @@ use Rattle.objects.proofs.Objects.is_full.Goals as goal
 
 -- at most k: all are taken exactly when k are
 full : (k n : ℕ) → n ≤ k → eqb n k ≡ leb k n
-full k n h = bool_ext _ _ (λ e. le-leb k n (omega (arith, eqb-true n k e))) (λ e. eq-eqb n k (omega (arith, leb-true k n e)))
+full k n h = grind (arith, nat_tests)
 
 pub returns : goal.returns
 returns c =

@@ -32,9 +32,7 @@ at_below c =
     omega (arith, at_is c, free-place (map occupied s.items) (omega (arith, c.requires.2)))
 
 pub set_bit-requires : goal.set_bit-requires
-set_bit-requires c =
-    let l = c in
-    omega (arith, at_below (goal.at.set_bit-requires l).After-lowest_free-at, laid-count l.args.self l.requires.0)
+set_bit-requires c = omega (arith, at_below (goal.at.set_bit-requires c).After-lowest_free-at, laid-count c.args.self c.requires.0)
 
 pub offset_bounds-self-at : goal.offset_bounds-self-at
 offset_bounds-self-at c = omega (arith, at_below (goal.at.offset_bounds-self-at c).After-lowest_free-at)
@@ -44,16 +42,15 @@ bounds-self-at c = at_below (goal.at.bounds-self-at c).After-lowest_free-at
 
 pub returns : goal.returns
 returns c =
-    let l = c in
-    let s = l.args.self in
-    let o = l.args.object in
-    let p = l.requires in
+    let s = c.args.self in
+    let o = c.args.object in
     let ps = s.items in
-    let at = l.lowest_free-at.result in
-    let long = items_long s _ l.well_formed.0 in
-    let placed : set ps at o ≡ place o ps = ap (λ (i : ℕ). set ps i o) (at_is (goal.at.returns l).After-lowest_free-at ∙ lowest-place ps) ∙ sym (place-lowest o ps) in
+    let at = c.lowest_free-at.result in
+    let before = (goal.at.returns c).After-lowest_free-at in
+    let long = items_long s _ c.well_formed.0 in
+    let placed : set ps at o ≡ place o ps = ap (λ (i : ℕ). set ps i o) (at_is before ∙ lowest-place ps) ∙ sym (place-lowest o ps) in
     let bits : c.set_bit.new.words ≡ words_at (place o ps) =
     c.set_bit.ensures
-    ∙ ap₂ (λ (b : Bool) (ws : List ℕ). with_flag word_bits b at ws) (sym p.1) (laid-words s p.0)
-    ∙ set_words ps long at (omega (arith, at_below (goal.at.returns l).After-lowest_free-at)) o ∙ ap words_at placed in
+    ∙ ap₂ (λ (b : Bool) (ws : List ℕ). with_flag word_bits b at ws) (sym c.requires.1) (laid-words s c.requires.0)
+    ∙ set_words ps long at (omega (arith, at_below before)) o ∙ ap words_at placed in
     λ j. record { occupancy = bits j; items = placed j }

@@ -1,61 +1,66 @@
-use mathlib.Core.Path.{◌≡◌, sym, ap, ◌∙◌}
-use mathlib.Core.Bool.{Bool, not, cond}
-use mathlib.Core.List.{List, map}
-use Prim.Native.Nat.{ℕ, suc, ◌+◌, ◌*◌, ◌-◌, ◌≤◌, ◌<◌, ◌^◌}
+use mathlib.Core.Path.{◌≡◌, refl, sym, ap, ◌∙◌}
+use mathlib.Core.Bool.{Bool, true, false, cond}
+use mathlib.Core.List.{List, [], ◌∷◌, ◌++◌, map}
+use Prim.Native.Nat.{ℕ, ◌-◌, ◌≤◌, ◌<◌, ◌^◌}
 use native.Mathlib.Omega.{arith}
-use borrow.Author.Tests.{eq-eqb, ne_eqb}
-use lib.ListN.{length, drop, get_or, length-map, length-drop}
-use lib.Seq.{drop-cons, drop-length}
+use lib.ListN.{length, length-map, length-append}
 use lib.Pow.{pow_mono}
+use mir.Val.{bool_byte}
+use Rattle.std.proofs.Common.{rules, append_assoc}
+use Rattle.std.proofs.lemmas.List.{nil_from_length}
 use Rattle.rules.specs.Limits.{word_bits}
 use Rattle.rules.specs.Table.{nonzero}
 use Rattle.objects.specs.Occupancy.{word}
-use Rattle.objects.proofs.Words.{word_lt}
-use Rattle.objects.proofs.occupancy.word_of.Invariants.{word_from}
-use Rattle.objects.proofs.occupancy.word_of.Goals.{else-numbers-i-eq0, then-numbers-i-eq0}
+use Rattle.objects.proofs.Words.{digit_le, word_lt}
+use Rattle.objects.proofs.occupancy.word_of.Goals.{In-Some}
 use Rattle.objects.proofs.occupancy.word_of.Goals as goal
 
--- one place more in front
-word_next : (ns : List ℕ) (j : ℕ) → j < length ns → word_from ns j ≡ word_from ns (suc j) * 2 + cond (nonzero (get_or ns j 0)) 1 0
-unfolding word
-word_next ns j h = ap (λ (l : List ℕ). word (map nonzero l)) (drop-cons ns j 0 h)
+-- the word of fewer places than its bits has room for one more
+room : (ns : List ℕ) → length ns < word_bits → word (map nonzero ns) < 2 ^ (word_bits - 1)
+room ns h =
+    let many = length-map ns nonzero in
+    let top : 2 ^ length (map nonzero ns) ≤ 2 ^ (word_bits - 1) = pow_mono {i = length (map nonzero ns)} {j = word_bits - 1} (omega arith) in
+    omega (arith, word_lt (map nonzero ns), top)
 
--- behind the first place there are fewer than the bits
-word_small : (ns : List ℕ) (i : ℕ) → length ns ≤ word_bits → 1 ≤ i → word_from ns i < 2 ^ (word_bits - 1)
-word_small ns i long h =
-    let few : length (map nonzero (drop i ns)) ≡ length ns - i = length-map (drop i ns) nonzero ∙ length-drop i ns in
-    let a = word_lt (map nonzero (drop i ns)) in
-    let b : 2 ^ length (map nonzero (drop i ns)) ≤ 2 ^ (word_bits - 1) = pow_mono {i = length (map nonzero (drop i ns))} {j = word_bits - 1} (omega arith) in
-    omega (arith, a, b)
+module _ (c : In-Some) where
+  abbrev passed : List ℕ
+  passed = c.loop-number.invariant.0
 
-pub loop-i-init : goal.loop-i-init
+  abbrev left : List ℕ
+  left = c.next.new.self.iter.rest.now
+
+  abbrev number : ℕ
+  number = c.in-Some.number.now
+
+  split : c.args.numbers.now ≡ left ++ number ∷ passed
+  split = c.loop-number.invariant.1 ∙ ap (λ (ns : List ℕ). ns ++ passed) c.in-Some.ensures.steps ∙ append_assoc left (number ∷ []) passed
+
+  small : c.loop-number.word < 2 ^ (word_bits - 1)
+  small = omega (arith, c.loop-number.invariant.2, room passed (omega (arith, c.requires, ap length split, length-append left (number ∷ passed))))
+
+-- a test's number is its digit in the word
+bit : (b : Bool) → bool_byte b ≡ cond b 1 0
+bit true = refl
+bit false = refl
+
+pub loop-number-init : goal.loop-number-init
 unfolding word
-loop-i-init c =
-    let ns = c.args.numbers.now in
-    (omega arith, omega arith, ap (λ (l : List ℕ). word (map nonzero l)) (sym (drop-length ns)))
+loop-number-init c = ([], search rules, refl)
 
 pub overflow_mul-word : goal.overflow_mul-word
-overflow_mul-word c =
-    let a = c in
-    let h = a.loop-i.invariant in
-    omega (arith, word_small a.args.numbers.now a.loop-i.i h.1 (omega arith), h.2)
+overflow_mul-word c = omega (arith, small c)
 
 pub overflow_add-word : goal.overflow_add-word
-overflow_add-word c =
-    let a = c in
-    let h = a.loop-i.invariant in
-    let small : c.if-numbers-i-eq0.bit ≤ 1 = (elim c.if-numbers-i-eq0.branch [ then-numbers-i-eq0 w ↦ omega (arith, w.bit-is) | else-numbers-i-eq0 w ↦ omega (arith, w.bit-is) ]) in
-    omega (arith, word_small a.args.numbers.now a.loop-i.i h.1 (omega arith), h.2, small)
+overflow_add-word c = omega (arith, small (goal.at.overflow_add-word c).In-Some, c.from.ensures, bit (nonzero c.in-Some.number.now), digit_le (nonzero c.in-Some.number.now))
 
-pub loop-i-preserved : goal.loop-i-preserved
-loop-i-preserved c =
-    let a = c in
-    let h = a.loop-i.invariant in
-    let ns = a.args.numbers.now in
-    let j = a.loop-i.i - 1 in
-    let next : suc j ≡ a.loop-i.i = omega arith in
-    let bit : c.if-numbers-i-eq0.bit ≡ cond (nonzero (get_or ns j 0)) 1 0 =
-    (elim c.if-numbers-i-eq0.branch [ then-numbers-i-eq0 w ↦ w.bit-is ∙ ap (λ (b : Bool). cond (not b) 1 0) (sym (eq-eqb _ _ w.if-numbers-i-eq0.true)) | else-numbers-i-eq0 w ↦ w.bit-is ∙ ap (λ (b : Bool). cond (not b) 1 0) (sym (ne_eqb _ _ w.if-numbers-i-eq0.false)) ]) in
-    let whole = word_next ns j (omega arith) in
-    let same = ap (word_from ns) next in
-    (omega arith, h.1, omega (arith, h.2, bit, whole, same))
+pub loop-number-preserved : goal.loop-number-preserved
+unfolding word
+loop-number-preserved c =
+    let s = (goal.at.loop-number-preserved c).In-Some in
+    (number s ∷ passed s, split s, omega (arith, c.from.ensures, bit (nonzero (number s)), c.loop-number.invariant.2))
+
+pub returns : goal.returns
+returns c =
+    let h = c.loop-number.invariant in
+    let none = nil_from_length c.loop-number.number-iterator.iter.rest.now c.in-None.ensures.steps.0 in
+    h.2 ∙ ap (λ (ns : List ℕ). word (map nonzero ns)) (sym (h.1 ∙ ap (λ (ns : List ℕ). ns ++ h.0) none))
