@@ -1,27 +1,20 @@
 -- What C's calls on records answer, and what they leave in the slices that are lent to be written.
 -- Assumes nothing.
-use Rattle.std.specs.Prelude.{cond, List, [], ◌∷◌, ℕ, eqb, ltb, length, take, get_or}
+use Rattle.std.specs.Prelude.{cond, List, [], ◌∷◌, ℕ, eqb, ltb, length, take, get_or, Option, Some, None}
 use Rattle.fields.specs.Fields.{over}
 use Rattle.rules.specs.declared.Role.{Role}
-use Rattle.rules.specs.declared.Role.TheVariants.{Writer, Compactor}
 use Rattle.rules.specs.declared.Kind.{Kind}
 use Rattle.rules.specs.declared.Kind.TheVariants.{Fence as FENCE, Put as PUT, Commit as COMMIT, Compact as COMPACT, Hold as HOLD, Renew as RENEW, Release as RELEASE, List as LIST, Look as LOOK, Collect as COLLECT}
 use Rattle.rules.specs.declared.Answer.{Answer}
 use Rattle.rules.specs.declared.Answer.TheVariants.{Refused, Done, Epoch, Listed, Found, Collected}
+use Rattle.rules.specs.declared.Step.{Step}
+use Rattle.rules.specs.declared.Verdict.{Verdict}
 use Rattle.rules.specs.Limits.{limits}
-use Rattle.records.specs.declared.KindRead.{KindRead}
-use Rattle.records.specs.declared.KindRead.TheVariants.{Known, Unknown}
-use Rattle.records.specs.declared.Reading.{Reading}
-use Rattle.records.specs.declared.Reading.TheVariants.{Read, Malformed}
-use Rattle.records.specs.declared.StepRead.{StepRead}
-use Rattle.verdicts.specs.declared.VerdictRead.{VerdictRead}
-use Rattle.records.specs.Steps.{decode_step, step_read}
+use Rattle.records.specs.Steps.{decode_step, step_read, with_role}
 use Rattle.verdicts.specs.Verdicts.{decode_verdict, verdict_read}
 use Rattle.records.specs.Writing.{reading_code, write_code, Writing, step_writing}
 use Rattle.verdicts.specs.Verdicts.{verdict_writing}
 use Rattle.ledger_numbers.specs.Numbers.{role_number}
-use Rattle.exports.specs.declared.AnswerRead.{AnswerRead}
-use Rattle.exports.specs.declared.AnswerRead.TheVariants.{Known as IsAnswer, Unknown as NoAnswer}
 use Rattle.exports.specs.Names.{Call}
 
 -- the answer of a reader, and every element of its two slices
@@ -44,10 +37,10 @@ lent_both n m numbers list rest =
     (cond (ltb (length list) m) (record { answer = 3; numbers = numbers; list = list })
     rest)
 
--- 0 with both slices filled from the start, 2 with both as they were
-abbrev pub told : Reading → List ℕ → List ℕ → List ℕ → List ℕ → Lent
-told Read a b numbers list = record { answer = reading_code Read; numbers = over a numbers; list = over b list }
-told Malformed a b numbers list = record { answer = reading_code Malformed; numbers = numbers; list = list }
+-- 0 with both slices filled from the start by what was read, 2 with both as they were
+abbrev pub told : {A : Type 0} → Option A → (A → List ℕ) → (A → List ℕ) → List ℕ → List ℕ → Lent
+told {A = A} None a b numbers list = record { answer = reading_code {A = A} None; numbers = numbers; list = list }
+told (Some x) a b numbers list = record { answer = reading_code (Some x); numbers = over (a x) numbers; list = over (b x) list }
 
 abbrev pub written : Writing → Call
 written w = record { answer = write_code w.answer; left = w.buffer }
@@ -67,42 +60,43 @@ step_numbers t (LIST h) n = 7 ∷ t ∷ 0 ∷ 0 ∷ 0 ∷ 0 ∷ 0 ∷ h ∷ 0 �
 step_numbers t (LOOK c h) n = 8 ∷ t ∷ 0 ∷ 0 ∷ 0 ∷ 0 ∷ c ∷ h ∷ 0 ∷ 0 ∷ n ∷ []
 step_numbers t COLLECT n = 9 ∷ t ∷ 0 ∷ 0 ∷ 0 ∷ 0 ∷ 0 ∷ 0 ∷ 0 ∷ 0 ∷ n ∷ []
 
-abbrev pub step_told : StepRead → List ℕ → List ℕ → Lent
+abbrev pub step_told : Option Step → List ℕ → List ℕ → Lent
 step_told r numbers list =
-    told r.reading (step_numbers r.step.time r.step.kind r.step.list.count) r.step.list.names numbers list
+    told r (λ (p : Step). step_numbers p.time p.kind p.list.count) (λ (p : Step). p.list.names) numbers list
 
 unfoldable pub read_step : List ℕ → List ℕ → List ℕ → Lent
 read_step bytes numbers list = lent_both step_size limits.names numbers list (step_told (step_read (decode_step bytes)) numbers list)
 
 -- the kind that the numbers of a step say; those that it does not have play no part
-abbrev pub fence_of : ℕ → ℕ → KindRead
-fence_of r s = cond (eqb r 0) (Known (FENCE Writer s)) (cond (eqb r 1) (Known (FENCE Compactor s)) Unknown)
+abbrev pub fence_of : ℕ → ℕ → Option Kind
+fence_of r s = with_role r (λ (w : Role). FENCE w s)
 
-abbrev pub put_of : ℕ → ℕ → ℕ → ℕ → KindRead
-put_of r e o c =
-    cond (ltb 65535 c) Unknown
-    (cond (eqb r 0) (Known (PUT Writer e o c)) (cond (eqb r 1) (Known (PUT Compactor e o c)) Unknown))
+abbrev pub put_of : ℕ → ℕ → ℕ → ℕ → Option Kind
+put_of r e o c = cond (ltb 65535 c) None (with_role r (λ (w : Role). PUT w e o c))
 
-abbrev pub look_of : ℕ → ℕ → KindRead
-look_of c h = cond (ltb 65535 c) Unknown (Known (LOOK c h))
+abbrev pub look_of : ℕ → ℕ → Option Kind
+look_of c h = cond (ltb 65535 c) None (Some (LOOK c h))
 
-unfoldable pub kind_of : List ℕ → KindRead
+unfoldable pub kind_of : List ℕ → Option Kind
 kind_of v =
     cond (eqb (get_or v 0 0) 0) (fence_of (get_or v 2 0) (get_or v 4 0))
     (cond (eqb (get_or v 0 0) 1) (put_of (get_or v 2 0) (get_or v 3 0) (get_or v 5 0) (get_or v 6 0))
-    (cond (eqb (get_or v 0 0) 2) (Known (COMMIT (get_or v 3 0) (get_or v 4 0)))
-    (cond (eqb (get_or v 0 0) 3) (Known (COMPACT (get_or v 3 0) (get_or v 4 0) (get_or v 5 0)))
-    (cond (eqb (get_or v 0 0) 4) (Known (HOLD (get_or v 7 0) (get_or v 8 0) (get_or v 9 0)))
-    (cond (eqb (get_or v 0 0) 5) (Known (RENEW (get_or v 7 0) (get_or v 9 0)))
-    (cond (eqb (get_or v 0 0) 6) (Known (RELEASE (get_or v 7 0)))
-    (cond (eqb (get_or v 0 0) 7) (Known (LIST (get_or v 7 0)))
+    (cond (eqb (get_or v 0 0) 2) (Some (COMMIT (get_or v 3 0) (get_or v 4 0)))
+    (cond (eqb (get_or v 0 0) 3) (Some (COMPACT (get_or v 3 0) (get_or v 4 0) (get_or v 5 0)))
+    (cond (eqb (get_or v 0 0) 4) (Some (HOLD (get_or v 7 0) (get_or v 8 0) (get_or v 9 0)))
+    (cond (eqb (get_or v 0 0) 5) (Some (RENEW (get_or v 7 0) (get_or v 9 0)))
+    (cond (eqb (get_or v 0 0) 6) (Some (RELEASE (get_or v 7 0)))
+    (cond (eqb (get_or v 0 0) 7) (Some (LIST (get_or v 7 0)))
     (cond (eqb (get_or v 0 0) 8) (look_of (get_or v 6 0) (get_or v 7 0))
-    (cond (eqb (get_or v 0 0) 9) (Known COLLECT) Unknown)))))))))
+    (cond (eqb (get_or v 0 0) 9) (Some COLLECT) None)))))))))
 
-abbrev pub step_written : KindRead → List ℕ → List ℕ → List ℕ → Call
-step_written Unknown numbers list buffer = record { answer = 2; left = buffer }
-step_written (Known k) numbers list buffer =
-    written (step_writing (record { time = get_or numbers 1 0; kind = k; list = record { count = get_or numbers 10 0; names = take limits.names list } }) buffer)
+-- the step of that kind, with its time and its list
+abbrev pub step_of : List ℕ → List ℕ → Kind → Step
+step_of numbers list k = record { time = get_or numbers 1 0; kind = k; list = record { count = get_or numbers 10 0; names = take limits.names list } }
+
+abbrev pub step_written : Option Kind → List ℕ → List ℕ → List ℕ → Call
+step_written None numbers list buffer = record { answer = 2; left = buffer }
+step_written (Some k) numbers list buffer = written (step_writing (step_of numbers list k) buffer)
 
 unfoldable pub write_step : List ℕ → List ℕ → List ℕ → Call
 write_step numbers list buffer =
@@ -121,26 +115,26 @@ verdict_numbers (Listed m) n = 3 ∷ m ∷ n ∷ []
 verdict_numbers (Found o) n = 4 ∷ o ∷ n ∷ []
 verdict_numbers Collected n = 5 ∷ 0 ∷ n ∷ []
 
-abbrev pub verdict_told : VerdictRead → List ℕ → List ℕ → Lent
+abbrev pub verdict_told : Option Verdict → List ℕ → List ℕ → Lent
 verdict_told r numbers list =
-    told r.reading (verdict_numbers r.verdict.answer r.verdict.list.count) r.verdict.list.objects numbers list
+    told r (λ (v : Verdict). verdict_numbers v.answer v.list.count) (λ (v : Verdict). v.list.objects) numbers list
 
 unfoldable pub read_verdict : List ℕ → List ℕ → List ℕ → Lent
 read_verdict bytes numbers list =
     lent_both verdict_size limits.places numbers list (verdict_told (verdict_read (decode_verdict bytes)) numbers list)
 
-unfoldable pub answer_of : ℕ → ℕ → AnswerRead
+unfoldable pub answer_of : ℕ → ℕ → Option Answer
 answer_of case value =
-    cond (eqb case 0) (cond (ltb 255 value) NoAnswer (IsAnswer (Refused value)))
-    (cond (eqb case 1) (IsAnswer Done)
-    (cond (eqb case 2) (IsAnswer (Epoch value))
-    (cond (eqb case 3) (IsAnswer (Listed value))
-    (cond (eqb case 4) (IsAnswer (Found value))
-    (cond (eqb case 5) (IsAnswer Collected) NoAnswer)))))
+    cond (eqb case 0) (cond (ltb 255 value) None (Some (Refused value)))
+    (cond (eqb case 1) (Some Done)
+    (cond (eqb case 2) (Some (Epoch value))
+    (cond (eqb case 3) (Some (Listed value))
+    (cond (eqb case 4) (Some (Found value))
+    (cond (eqb case 5) (Some Collected) None)))))
 
-abbrev pub verdict_written : AnswerRead → List ℕ → List ℕ → List ℕ → Call
-verdict_written NoAnswer numbers list buffer = record { answer = 2; left = buffer }
-verdict_written (IsAnswer a) numbers list buffer =
+abbrev pub verdict_written : Option Answer → List ℕ → List ℕ → List ℕ → Call
+verdict_written None numbers list buffer = record { answer = 2; left = buffer }
+verdict_written (Some a) numbers list buffer =
     written (verdict_writing (record { answer = a; list = record { count = get_or numbers 2 0; objects = take limits.places list } }) buffer)
 
 unfoldable pub write_verdict : List ℕ → List ℕ → List ℕ → Call

@@ -1,20 +1,19 @@
 -- What C's calls on a ledger answer and leave in the slices that are lent to be written; a ledger is its numbers (crate ledger_numbers).
 -- Assumes nothing.
-use Rattle.std.specs.Prelude.{cond, List, [], ◌∷◌, ℕ, ltb, length, take, get_or}
+use Rattle.std.specs.Prelude.{cond, List, [], ◌∷◌, ℕ, ltb, length, Option, Some, None}
 use Rattle.fields.specs.Fields.{over}
 use Rattle.rules.specs.Limits.{limits}
 use Rattle.rules.specs.State.{fresh as fresh_state}
 use Rattle.rules.specs.Request.{Request, Unreadable}
 use Rattle.rules.specs.Typed.{request_of as step_request}
-use Rattle.records.specs.declared.KindRead.{KindRead}
-use Rattle.records.specs.declared.KindRead.TheVariants.{Known, Unknown}
+use Rattle.rules.specs.declared.Kind.{Kind}
 use Rattle.ledger.specs.declared.Ledger.{Ledger}
 use Rattle.ledger.specs.declared.StepAnswer.{StepAnswer}
 use Rattle.ledger.specs.Ledger.{lay, view, is_sound}
 use Rattle.ledger.specs.Step.{judged}
 use Rattle.ledger_numbers.specs.Numbers.{ledger_size, ledger_numbers, ledger_from, laid_back}
 use Rattle.exports.specs.Names.{Call}
-use Rattle.exports.specs.Codec.{step_size, verdict_size, kind_of, verdict_numbers}
+use Rattle.exports.specs.Codec.{step_size, verdict_size, kind_of, step_of, verdict_numbers}
 
 -- 0, or 3 where the slice is too short
 unfoldable pub fresh : List ℕ → Call
@@ -40,9 +39,9 @@ abbrev pub version : ℕ
 version = 1007000
 
 -- what the numbers of a step ask: those that say no kind are a step that no record can say
-abbrev pub request_of : KindRead → List ℕ → List ℕ → Request
-request_of Unknown numbers list = Unreadable
-request_of (Known k) numbers list = step_request (record { time = get_or numbers 1 0; kind = k; list = record { count = get_or numbers 10 0; names = take limits.names list } })
+abbrev pub request_of : Option Kind → List ℕ → List ℕ → Request
+request_of None numbers list = Unreadable
+request_of (Some k) numbers list = step_request (step_of numbers list k)
 
 -- the answer of a step, and every element of the three slices that it may write
 pub record Stepped : Type 0 where

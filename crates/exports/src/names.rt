@@ -1,10 +1,9 @@
 // Store names (document 01, "Records and names"), for C.
 ghost use Rattle.std.specs.Prelude.{◌≡◌};
-ghost use Rattle.store_names.specs.Names.{write_code};
 ghost use Rattle.exports.specs.Names.{read_name, write_name};
 
-use crate::{FULL, MALFORMED, NO_PLACE};
-use fields::WriteError;
+use crate::codec::write_code;
+use crate::{MALFORMED, NO_PLACE};
 use store_names::Name;
 
 // A name's kind.
@@ -32,17 +31,6 @@ pub fn cuudhaqil_read_name(name: &[u8], number: &mut [u64]) -> u64
             number[0] = n;
             OBJECT
         }
-    }
-}
-
-// The writer's answer as a number.
-fn write_code(w: Result<usize, WriteError>) -> u64
-    ensures { result ≡ write_code w }
-{
-    match w {
-        Ok(n) => n as u64,
-        Err(WriteError::Malformed) => MALFORMED,
-        Err(WriteError::Full) => FULL,
     }
 }
 
