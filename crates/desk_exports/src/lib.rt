@@ -22,10 +22,7 @@ const ENTRY: usize = 3;
 fn narrow_currency(c: u64) -> u16
     ensures { result ≡ narrow c }
 {
-    if 65535 < c {
-        return 65535;
-    }
-    c as u16
+    u16::try_from(c).unwrap_or(u16::MAX)
 }
 
 // Sheets
@@ -119,21 +116,17 @@ fn row_from(card: &[u64], count: usize) -> [Entry; ROW]
     requires { (count ≤ row_limit) × (3 * count ≤ length card.now) }
     ensures { result ≡ row_from count card.now }
 {
-    let zero = Entry {
+    let blank = Entry {
         currency: 0,
         code: 0,
         object: 0,
     };
-    let mut row = [zero; ROW];
-    let mut i: usize = 0;
-    while i < count {
-        let currency = narrow_currency(card[ENTRY * i]);
-        row[i] = Entry {
-            currency,
-            code: 0,
-            object: 0,
+    let mut row = [blank; ROW];
+    for (i, entry) in row[..count].iter_mut().enumerate() {
+        *entry = Entry {
+            currency: narrow_currency(card[ENTRY * i]),
+            ..blank
         };
-        i += 1;
     }
     row
 }
@@ -143,12 +136,9 @@ fn put_filled(row: [Entry; ROW], count: usize, card: &mut [u64])
     requires { (count ≤ row_limit) × (3 * count ≤ length card.old) }
     ensures { card.new ≡ put_filled row count card.old }
 {
-    let mut i: usize = 0;
-    while i < count {
-        let e = row[i];
-        card[ENTRY * i + 1] = e.code as u64;
-        card[ENTRY * i + 2] = e.object;
-        i += 1;
+    for (i, entry) in row[..count].iter().enumerate() {
+        card[ENTRY * i + 1] = u64::from(entry.code);
+        card[ENTRY * i + 2] = entry.object;
     }
 }
 
