@@ -124,6 +124,7 @@ fn refused(error: SaleError, ledger: Ledger) -> SaleAnswer
 
 // A sale in that currency, by the current manifest or by that of a live hold, with the sheet lent as bytes: the ledger after
 // the look, or where it is refused the one before.
+#[tactic(auto, unfolding(crate::specs::Sale::sale_of))]
 pub fn sell(
     ledger: Ledger,
     time: u64,
@@ -167,6 +168,7 @@ pub struct Filled {
 }
 
 // One entry, filled in by a look, and the ledger after it.
+#[tactic(auto, unfolding(crate::specs::Card::filled))]
 fn fill_entry(ledger: Ledger, time: u64, hold: u64, entry: Entry) -> Filled
     ensures { result ≡ filled ledger time hold entry }
 {

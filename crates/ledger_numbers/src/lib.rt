@@ -282,6 +282,7 @@ pub fn put_ledger(ledger: Ledger, out: &mut [u64])
 }
 
 // Lays the next ledger's numbers over those that it came from; numbers that no ledger can be stay as they are.
+#[tactic(auto, unfolding(crate::specs::Numbers::laid_back))]
 pub fn lay_back(ledger: Ledger, numbers: &mut [u64])
     requires { ledger_size ≤ length numbers.old }
     ensures { numbers.new ≡ laid_back ledger numbers.old }
