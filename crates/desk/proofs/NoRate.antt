@@ -2,6 +2,7 @@
 use mathlib.Core.Path.{◌≡◌, refl, sym, ap, subst, ◌∙◌}
 use mathlib.Core.Bool.{Bool, true, false, not, cond, ◌&&◌, true≢false}
 use mathlib.Core.List.{List, []}
+use Rattle.std.specs.Prelude.{Ok, Err}
 use Prim.Native.Nat.{ℕ, ◌≤◌, ◌<◌}
 use native.Mathlib.Omega.{arith}
 use lib.Dec.{ltb, eqb, lit<}
@@ -31,27 +32,17 @@ use Rattle.ledger.proofs.Demand3.{delivered}
 use Rattle.records.proofs.RoundTripRecords.{picked}
 use Rattle.sheets.specs.declared.Sheet.{Sheet}
 use Rattle.sheets.specs.declared.SheetRead.{SheetRead}
-use Rattle.sheets.specs.declared.SheetRead.TheVariants.{Read, Malformed}
+use Rattle.sheets.specs.declared.SheetRead.TheVariants.{Read, Malformed as NoSheet}
 use Rattle.sheets.specs.Sheets.{decode_sheet}
 use Rattle.sheets.proofs.Reading.{read-formed}
-use Rattle.desk.specs.declared.Sale.{Sale}
-use Rattle.desk.specs.declared.Sale.TheVariants.{Charged, Refused}
+use Rattle.desk.specs.declared.SaleError.{SaleError}
+use Rattle.desk.specs.declared.SaleError.TheVariants.{LookRefused, Malformed, OtherSheet}
 use Rattle.desk.specs.declared.SaleAnswer.{SaleAnswer}
 use Rattle.desk.specs.Charge.{largest_fare, charge_of, Smallest}
-use Rattle.desk.specs.Look.{asked, object_of, look_of}
-use Rattle.desk.specs.Sale.{refused_sale, is_in_force, sale_of}
+use Rattle.desk.specs.Look.{asked, object_of, found_in, found_code, found_object, look_of}
+use Rattle.desk.specs.Sale.{error_number, refused_sale, is_in_force, sale_by, kept_by, sale_of}
 use Rattle.desk.specs.NoRate.{WentBy, SaleExact, LookedExact, NoRateNoCharge}
 use Rattle.desk.proofs.Rounding.{charge-smallest, rate_bounds}
-
--- ---- sales are told apart
-
-abbrev amount : Sale → ℕ
-amount (Charged n) = n
-amount (Refused n) = n
-
-abbrev is_charged : Sale → Bool
-is_charged (Charged n) = true
-is_charged (Refused n) = false
 
 module _ (l : Ledger) (time : ℕ) (sheet : List ℕ) (currency hold fare : ℕ) where
   abbrev sold : SaleAnswer
@@ -60,16 +51,17 @@ module _ (l : Ledger) (time : ℕ) (sheet : List ℕ) (currency hold fare : ℕ)
   abbrev looked : StepAnswer
   looked = judged l (asked time currency hold)
 
-  turned : (m : ℕ) → 0 < m → sold ≡ refused_sale m l → SaleExact l time sheet currency hold fare
-  turned m some e =
-      let said = ap (λ (a : SaleAnswer). a.sale) e in
+  -- a sale that is refused is not charged, and was refused for one reason
+  turned : (e : SaleError) → 0 < error_number e → sold ≡ refused_sale e l → SaleExact l time sheet currency hold fare
+  turned e some is =
+      let said = ap (λ (a : SaleAnswer). a.sale) is in
       record {
-        charged = λ n q. absurd (true≢false (ap is_charged (sym q ∙ said)));
-        refused = λ n q. (subst (λ (k : ℕ). 0 < k) (ap amount (sym said ∙ q)) some, ap (λ (a : SaleAnswer). a.ledger) e);
+        charged = λ n q. absurd (cc);
+        refused = λ f q. let same : e ≡ f = cc in (subst (λ (g : SaleError). 0 < error_number g) same some, ap (λ (a : SaleAnswer). a.ledger) is);
       }
 
   went : (s : Sheet) → decode_sheet sheet ≡ Read s → fare ≤ largest_fare → s.currency ≡ currency → looked.verdict.answer ≡ Found s.object
-      → sold ≡ record { sale = Charged (charge_of fare s.numerator s.denominator); ledger = looked.ledger } → SaleExact l time sheet currency hold fare
+      → sold ≡ record { sale = Ok (charge_of fare s.numerator s.denominator); ledger = looked.ledger } → SaleExact l time sheet currency hold fare
   went s read few same found e =
       let said = ap (λ (a : SaleAnswer). a.sale) e in
       let smallest = charge-smallest.smallest fare s.numerator s.denominator (rate_bounds s (read-formed sheet s read)).1.0 in
@@ -80,26 +72,34 @@ module _ (l : Ledger) (time : ℕ) (sheet : List ℕ) (currency hold fare : ℕ)
           fares = few;
           same = same;
           found = found;
-          charge = subst (λ (k : ℕ). Smallest fare s.numerator s.denominator k) (ap amount (sym said ∙ q)) smallest;
+          charge = let least : charge_of fare s.numerator s.denominator ≡ n = cc in subst (λ (k : ℕ). Smallest fare s.numerator s.denominator k) least smallest;
           next = ap (λ (a : SaleAnswer). a.ledger) e;
         };
-        refused = λ n q. absurd (true≢false (ap is_charged (sym said ∙ q)));
+        refused = λ f q. absurd (cc);
       }
 
   -- ---- the sale by its cases
 
+  -- the ledger goes by whether the sheet is in force, as the charge does
+  kept-if_in_force : (next : Ledger) (units : ℕ) (b : Bool) → kept_by l next (cond b (Ok units) (Err OtherSheet)) ≡ cond b (record { sale = Ok units; ledger = next }) (refused_sale OtherSheet l)
+  kept-if_in_force next units true = refl
+  kept-if_in_force next units false = refl
+
   module _ (s : Sheet) (read : decode_sheet sheet ≡ Read s) (few : ltb largest_fare fare ≡ false) where
     found-sale : (n : ℕ) → looked.verdict.answer ≡ Found n
-        → sold ≡ cond (is_in_force s n currency) (record { sale = Charged (charge_of fare s.numerator s.denominator); ledger = looked.ledger }) (refused_sale 30 l)
+        → sold ≡ cond (is_in_force s n currency) (record { sale = Ok (charge_of fare s.numerator s.denominator); ledger = looked.ledger }) (refused_sale OtherSheet l)
     unfolding sale_of look_of
-    found-sale n e = rw (read, few, e)
+    found-sale n e =
+        rw (read, few)
+        (ap (λ (a : Answer). kept_by l looked.ledger (sale_by s currency fare (found_in a))) e
+        ∙ kept-if_in_force looked.ledger (charge_of fare s.numerator s.denominator) (is_in_force s n currency))
 
-    refused_sale_lem : (n : ℕ) → 0 < n → looked.verdict.answer ≡ REFUSED n → sold ≡ refused_sale n l
+    refused_sale_lem : (n : ℕ) → looked.verdict.answer ≡ REFUSED n → sold ≡ refused_sale (LookRefused n) l
     unfolding sale_of look_of
-    refused_sale_lem n some e = rw (read, few, e, ne_eqb n 0 (λ z. omega (arith, z)))
+    refused_sale_lem n e = rw (read, few) (ap (λ (a : Answer). kept_by l looked.ledger (sale_by s currency fare (found_in a))) e)
 
     by-look : Outcome l looked → SaleExact l time sheet currency hold fare
-    by-look (refuses n some e) = turned n some (refused_sale_lem n some (ap (λ (a : StepAnswer). a.verdict.answer) e))
+    by-look (refuses n some e) = turned (LookRefused n) some (refused_sale_lem n (ap (λ (a : StepAnswer). a.verdict.answer) e))
     by-look (finds n e) = step (is_in_force s n currency) refl
       where
         answered : looked.verdict.answer ≡ Found n
@@ -110,15 +110,15 @@ module _ (l : Ledger) (time : ℕ) (sheet : List ℕ) (currency hold fare : ℕ)
             let object = eqb-true s.object n (and_left (eqb s.object n) (eqb s.currency currency) q) in
             let same = eqb-true s.currency currency (and_right (eqb s.object n) (eqb s.currency currency) q) in
             went s read (ltb-false largest_fare fare few) same (answered ∙ ap Found (sym object)) (found-sale n answered ∙ rw q)
-        step false q = turned 30 (lit< tt) (found-sale n answered ∙ rw q)
+        step false q = turned OtherSheet (lit< tt) (found-sale n answered ∙ rw q)
 
   pub sale-exact : SaleExact l time sheet currency hold fare
   unfolding sale_of
   sale-exact = step (decode_sheet sheet) refl (ltb largest_fare fare) refl
     where
       step : (r : SheetRead) → decode_sheet sheet ≡ r → (b : Bool) → ltb largest_fare fare ≡ b → SaleExact l time sheet currency hold fare
-      step Malformed read b few = turned 2 (lit< tt) (rw read)
-      step (Read s) read true few = turned 2 (lit< tt) (rw (read, few))
+      step NoSheet read b few = turned Malformed (lit< tt) (rw read)
+      step (Read s) read true few = turned Malformed (lit< tt) (rw (read, few))
       step (Read s) read false few = by-look s read few (look_outcome l time currency hold)
 
 -- ---- by the history
@@ -151,19 +151,29 @@ module _ (asks : List Ask) (time currency hold : ℕ) where
   answered : (judged (ledger_after (lay fresh) asks) (asked time currency hold)).verdict.answer ≡ look_at limits time (history_of asks) currency hold
   answered = ap (λ (v : Verdict). v.answer) ((delivered asks).answers (asked time currency hold)) ∙ ap (λ (r : Reply). r.answer) (looks asks time currency hold)
 
+  codes : (a : Answer) → (found_code (found_in a) ≡ code a) × (found_object (found_in a) ≡ object_of a)
+  codes (REFUSED n) = (refl, refl)
+  codes Done = (refl, refl)
+  codes (Epoch e) = (refl, refl)
+  codes (Listed m) = (refl, refl)
+  codes (Found n) = (refl, refl)
+  codes Collected = (refl, refl)
+
   pub looked-exact : LookedExact asks time currency hold
   unfolding look_of
-  looked-exact = record { code = ap code answered; object = ap object_of answered }
+  looked-exact =
+      let told = codes (judged (ledger_after (lay fresh) asks) (asked time currency hold)).verdict.answer in
+      record { code = told.0 ∙ ap code answered; object = told.1 ∙ ap object_of answered }
 
   module _ (sheet : List ℕ) (fare : ℕ) where
     says : (n : ℕ) (w : WentBy (ledger_after (lay fresh) asks) time sheet currency hold fare n) → Rated (Found w.rate.object)
     says n w = subst Rated (sym answered ∙ w.found) rated
 
-    charged : (n : ℕ) → (sale_of (ledger_after (lay fresh) asks) time sheet currency hold fare).sale ≡ Charged n → WentBy (ledger_after (lay fresh) asks) time sheet currency hold fare n
+    charged : (n : ℕ) → (sale_of (ledger_after (lay fresh) asks) time sheet currency hold fare).sale ≡ Ok n → WentBy (ledger_after (lay fresh) asks) time sheet currency hold fare n
     charged n q = (sale-exact (ledger_after (lay fresh) asks) time sheet currency hold fare).charged n q
 
     sells : (s : Sheet) → decode_sheet sheet ≡ Read s → fare ≤ largest_fare → s.currency ≡ currency → look_at limits time (history_of asks) currency hold ≡ Found s.object
-        → (sale_of (ledger_after (lay fresh) asks) time sheet currency hold fare).sale ≡ Charged (charge_of fare s.numerator s.denominator)
+        → (sale_of (ledger_after (lay fresh) asks) time sheet currency hold fare).sale ≡ Ok (charge_of fare s.numerator s.denominator)
     sells s read few same found =
         let l = ledger_after (lay fresh) asks in
         let same-sheet : is_in_force s s.object currency ≡ true = and_both _ _ (eq-eqb s.object s.object refl) (eq-eqb s.currency currency same) in

@@ -3,6 +3,7 @@ use mathlib.Core.Path.{◌≡◌, refl, ap, ◌∙◌}
 use mathlib.Core.Logic.{◌⊎◌, inl, inr}
 use mathlib.Core.Bool.{true}
 use mathlib.Core.List.{List, [], ◌∷◌}
+use Rattle.std.specs.Prelude.{Result, Ok, Err}
 use Prim.Native.Nat.{ℕ, zero, suc}
 use lib.Dec.{leb}
 use Rattle.ledger.specs.declared.Ledger.{Ledger}
@@ -12,8 +13,7 @@ use Rattle.ledger.specs.Look.{Outcome, finds, refuses}
 use Rattle.ledger.specs.Demand3.{verdict_size, kept_after, ledger_after}
 use Rattle.ledger.proofs.Looking.{look_outcome}
 use Rattle.desk.specs.declared.Entry.{Entry}
-use Rattle.desk.specs.declared.Sale.{Sale}
-use Rattle.desk.specs.declared.Sale.TheVariants.{Charged, Refused}
+use Rattle.desk.specs.declared.SaleError.{SaleError}
 use Rattle.desk.specs.Look.{asked, look_of}
 use Rattle.desk.specs.Sale.{sale_of}
 use Rattle.desk.specs.Card.{filled, after}
@@ -33,9 +33,9 @@ sale-onward : (l : Ledger) (time : ℕ) (sheet : List ℕ) (currency hold fare :
 unfolding ledger_after
 sale-onward l time sheet currency hold fare = step (sale_of l time sheet currency hold fare).sale refl
   where
-    step : (s : Sale) → (sale_of l time sheet currency hold fare).sale ≡ s → ((sale_of l time sheet currency hold fare).ledger ≡ l) ⊎ ((sale_of l time sheet currency hold fare).ledger ≡ kept_after l (look_ask time currency hold))
-    step (Charged n) e = inr (((sale-exact l time sheet currency hold fare).charged n e).next ∙ look-kept l time currency hold)
-    step (Refused n) e = inl ((sale-exact l time sheet currency hold fare).refused n e).1
+    step : (s : Result ℕ SaleError) → (sale_of l time sheet currency hold fare).sale ≡ s → ((sale_of l time sheet currency hold fare).ledger ≡ l) ⊎ ((sale_of l time sheet currency hold fare).ledger ≡ kept_after l (look_ask time currency hold))
+    step (Ok n) e = inr (((sale-exact l time sheet currency hold fare).charged n e).next ∙ look-kept l time currency hold)
+    step (Err f) e = inl ((sale-exact l time sheet currency hold fare).refused f e).1
 
 card-onward : (l : Ledger) (time hold n : ℕ) (es : List Entry) → after time hold l n es ≡ ledger_after l (looks_of time hold n es)
 unfolding after looks_of ledger_after filled look_of

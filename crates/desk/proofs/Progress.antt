@@ -3,12 +3,13 @@
 --     starts, steps, stops     it holds at first; one look keeps it; and once `count` looks are made, ys and l are what was to be given
 --     refuses          a count above the card's length
 -- Assumes nothing.
-use mathlib.Core.Path.{◌≡◌, refl, sym, ◌∙◌, ap}
+use mathlib.Core.Path.{◌≡◌, sym, ◌∙◌, ap}
 use Prim.Native.Nat.{ℕ, suc, ◌+◌, ◌-◌, ◌≤◌, ◌<◌}
 use native.Mathlib.Numerals.{add-one}
 use native.Mathlib.Omega.{arith}
 use mathlib.Core.List.{List, ◌∷◌, ◌++◌, append_assoc}
-use lib.ListN.{length, take, drop, get_or, set, length-set, take-append-drop}
+use Rattle.std.specs.Prelude.{Some, None}
+use lib.ListN.{length, take, drop, get_or, set, take-append-drop}
 use lib.Seq.{drop-cons, take-suc-set, drop-set-lt}
 use borrow.Author.Tests.{lt-ltb, le-ltb}
 use Rattle.ledger.specs.declared.Ledger.{Ledger}
@@ -18,25 +19,23 @@ use Rattle.desk.specs.Card.{filled, entries, after, card_of, answer_of}
 
 module _ (time hold count : ℕ) (ledger : Ledger) (xs : List Entry) where
   pub record Progress (i : ℕ) (l : Ledger) (ys : List Entry) : Type 0 where
-    pub within : i ≤ count
-    pub as_long : length ys ≡ length xs
     pub card_is : take i ys ++ entries time hold l (count - i) (drop i ys) ≡ entries time hold ledger count xs
     pub ledger_is : after time hold l (count - i) (drop i ys) ≡ after time hold ledger count xs
 
   pub starts : Progress 0 ledger xs
   starts =
       let none : count - 0 ≡ count = omega arith in
-      record { within = omega arith; as_long = refl; card_is = rw none; ledger_is = rw none }
+      record { card_is = rw none; ledger_is = rw none }
 
-  pub refuses : length xs < count → (record { code = 2; ledger = ledger } ≡ answer_of ledger time hold count xs) × (xs ≡ card_of ledger time hold count xs)
+  pub refuses : length xs < count → (None ≡ answer_of ledger time hold count xs) × (xs ≡ card_of ledger time hold count xs)
   unfolding answer_of card_of
   refuses over = (rw lt-ltb, rw lt-ltb)
 
-  pub stops : count ≤ length xs → (i : ℕ) (l : Ledger) (ys : List Entry) → Progress i l ys → count ≤ i → (record { code = 0; ledger = l } ≡ answer_of ledger time hold count xs) × (ys ≡ card_of ledger time hold count xs)
+  pub stops : count ≤ length xs → (i : ℕ) (l : Ledger) (ys : List Entry) → Progress i l ys → count ≤ i → (Some l ≡ answer_of ledger time hold count xs) × (ys ≡ card_of ledger time hold count xs)
   unfolding answer_of card_of entries after
   stops enough i l ys p over =
       let none : count - i ≡ 0 = omega arith in
-      (rw le-ltb (ap (λ (m : Ledger). record { code = 0; ledger = m }) (rw none at p.ledger_is)), rw le-ltb (sym (take-append-drop i ys) ∙ (rw none at p.card_is)))
+      (rw le-ltb (ap Some (rw none at p.ledger_is)), rw le-ltb (sym (take-append-drop i ys) ∙ (rw none at p.card_is)))
 
   module _ (i : ℕ) (l : Ledger) (ys : List Entry) (d : Entry) (p : Progress i l ys) (less : i < count) (in-card : i < length ys) (r : Filled) (is : r ≡ filled l time hold (get_or ys i d)) where
     one_less : count - i ≡ suc (count - suc i)
@@ -59,8 +58,6 @@ module _ (time hold count : ℕ) (ledger : Ledger) (xs : List Entry) where
 
     pub steps : Progress (i + 1) r.ledger (set ys i r.entry)
     steps = record {
-      within = omega arith;
-      as_long = length-set ys i r.entry ∙ p.as_long;
       card_is = rw (add-one, beyond, take-suc-set ys i r.entry in-card, append_assoc) card-next;
       ledger_is = rw (add-one, beyond) ledger-next;
     }

@@ -3,9 +3,13 @@ use mathlib.Core.Path.{◌≡◌, refl}
 use mathlib.Core.Bool.{true}
 use mathlib.Core.List.{[], ◌∷◌}
 use Prim.Native.Nat.{ℕ, suc, ◌+◌, ◌*◌, ◌-◌, ◌≤◌, ◌<◌}
-use native.Mathlib.Nat.{suc-mul, mul-le-mul, lt-div-mul-add, div-lt_iff_lt-mul}
+use native.Mathlib.Nat.{suc-mul, mul-le-mul, mul-le-mul_right, lt-div-mul-add, div-lt_iff_lt-mul}
 use native.Mathlib.Omega.{arith}
 use lib.Dec.{eqb, leb}
+use mathlib.Core.Logic.{⊎_elim}
+use Rattle.std.proofs.lemmas.Bool.{cases_lt}
+use Rattle.std.proofs.lemmas.Grind.{div_ceil_times}
+use Rattle.std.specs.Int.{div_ceil}
 use borrow.Author.Tests.{leb-true, eqb-false, not-true}
 use Rattle.rules.specs.Limits.{currency_limit}
 use Rattle.rules.specs.Table.{nonzero}
@@ -35,6 +39,16 @@ charge-smallest = record {
   first = refl;
   second = refl;
 }
+
+-- the library's division that rounds up
+pub rounded_up : (fare numerator denominator : ℕ) → 0 < denominator → div_ceil (fare * numerator) denominator ≡ charge_of fare numerator denominator
+rounded_up fare n d some =
+    let up = div_ceil (fare * n) d in
+    let times = div_ceil_times (fare * n) d some in
+    charge-smallest.only fare n d up some (record {
+      enough = times.0;
+      least = λ k h. ⊎_elim (λ more. absurd (omega (arith, times.1, suc-mul k d, mul-le-mul_right d more))) (λ most. most) (cases_lt k up);
+    })
 
 -- ---- the bounds that a well-formed sheet has
 

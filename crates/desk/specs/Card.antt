@@ -1,17 +1,16 @@
 -- A route card (document 02, request 2): "a lent row of entries, each a currency and room for a code and an object". Its entries are filled in, in order,
 -- each by one look, and the ledger is handed on from look to look. Assumes nothing.
-use Rattle.std.specs.Prelude.{cond, List, [], ◌∷◌, ℕ, zero, suc, ltb, length}
+use Rattle.std.specs.Prelude.{cond, List, [], ◌∷◌, ℕ, zero, suc, Option, None, Some, ltb, length}
 use Rattle.ledger.specs.declared.Ledger.{Ledger}
 use Rattle.desk.specs.declared.Looked.{Looked}
 use Rattle.desk.specs.declared.Entry.{Entry}
 use Rattle.desk.specs.declared.Filled.{Filled}
-use Rattle.desk.specs.declared.CardAnswer.{CardAnswer}
 use Rattle.desk.specs.declared.RowFilled.{RowFilled}
-use Rattle.desk.specs.Look.{look_of}
+use Rattle.desk.specs.Look.{found_code, found_object, look_of}
 
 -- "each look's code and object (0 if refused)": the entry's currency stays
 abbrev pub filled_by : Entry → Looked → Filled
-filled_by e a = record { entry = record { currency = e.currency; code = a.code; object = a.object }; ledger = a.ledger }
+filled_by e a = record { entry = record { currency = e.currency; code = found_code a.found; object = found_object a.found }; ledger = a.ledger }
 
 unfoldable pub filled : Ledger → ℕ → ℕ → Entry → Filled
 filled l time hold e = filled_by e (look_of l time e.currency hold)
@@ -33,16 +32,22 @@ module _ (time hold : ℕ) where
 unfoldable pub card_of : Ledger → ℕ → ℕ → ℕ → List Entry → List Entry
 card_of l time hold count es = cond (ltb (length es) count) es (entries time hold l count es)
 
-unfoldable pub answer_of : Ledger → ℕ → ℕ → ℕ → List Entry → CardAnswer
-answer_of l time hold count es = cond (ltb (length es) count) (record { code = 2; ledger = l }) (record { code = 0; ledger = after time hold l count es })
+unfoldable pub answer_of : Ledger → ℕ → ℕ → ℕ → List Entry → Option Ledger
+answer_of l time hold count es = cond (ltb (length es) count) None (Some (after time hold l count es))
 
 -- how many entries a row by value has
 abbrev pub row_limit : ℕ
 row_limit = 64
 
 -- a row by value
-abbrev pub row_by : CardAnswer → List Entry → RowFilled
-row_by a es = record { code = a.code; ledger = a.ledger; entries = es }
+abbrev pub row_by : Option Ledger → List Entry → Option RowFilled
+row_by None es = None
+row_by (Some l) es = Some (record { ledger = l; entries = es })
 
-unfoldable pub row_of : Ledger → ℕ → ℕ → ℕ → List Entry → RowFilled
+unfoldable pub row_of : Ledger → ℕ → ℕ → ℕ → List Entry → Option RowFilled
 row_of l time hold count es = row_by (answer_of l time hold count es) (card_of l time hold count es)
+
+-- the paper's number for what comes of a card or a row
+abbrev pub card_code : {A : Type 0} → Option A → ℕ
+card_code None = 2
+card_code (Some a) = 0

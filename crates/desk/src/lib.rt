@@ -3,11 +3,10 @@
 #![tactic(auto)]
 
 ghost use Rattle.std.specs.Prelude.{◌≡◌, true, ◌≤◌};
-ghost use Rattle.rules.specs.Step.{code as code_of};
 ghost use Rattle.sheets.specs.Sheets.{sheet_formed};
 ghost use Rattle.desk.specs.Charge.{largest_fare, charge_of};
-ghost use Rattle.desk.specs.Look.{object_of, look_of};
-ghost use Rattle.desk.specs.Sale.{refused_sale, sold_by, sale_of};
+ghost use Rattle.desk.specs.Look.{found_in, look_of};
+ghost use Rattle.desk.specs.Sale.{error_number, refused_sale, sale_by, sale_of};
 ghost use Rattle.desk.specs.Card.{filled, card_of, answer_of, row_of};
 
 use ledger::Ledger;
@@ -22,52 +21,54 @@ pub const MALFORMED: u8 = 2;
 
 pub const OTHER_SHEET: u8 = 30;
 
-// What a look comes to: its code, the object in force or 0, and the next ledger.
+// What a look comes to: the object in force or the ledger's number, and the next ledger.
 #[derive(Clone, Copy)]
 pub struct Looked {
-    pub code: u8,
-    pub object: u64,
+    pub found: Result<u64, u8>,
     pub ledger: Ledger,
 }
 
-// A sale: charged so many units of the currency, or refused with a number.
-#[derive(Clone, Copy)]
-pub enum Sale {
-    Charged(u64),
-    Refused(u8),
+// Why a sale is refused.
+#[derive(Clone, Copy, PartialEq, Eq)]
+pub enum SaleError {
+    // the ledger refuses the look, with a number of its own
+    LookRefused(u8),
+    // the sheet or the fare is malformed
+    Malformed,
+    // the sheet is not the one in force
+    OtherSheet,
 }
 
+impl SaleError {
+    // The paper's number.
+    pub fn number(self) -> u8
+        ensures { result ≡ error_number self }
+    {
+        match self {
+            SaleError::LookRefused(number) => number,
+            SaleError::Malformed => MALFORMED,
+            SaleError::OtherSheet => OTHER_SHEET,
+        }
+    }
+}
+
+// The units of the currency that are charged, or why nothing is; and the ledger after the sale.
 #[derive(Clone, Copy)]
 pub struct SaleAnswer {
-    pub sale: Sale,
+    pub sale: Result<u64, SaleError>,
     pub ledger: Ledger,
 }
 
 // The look
 
-fn code_of(answer: Answer) -> u8
-    ensures { result ≡ code_of answer }
+// What the ledger answers to a LOOK. It has no other answers to one.
+fn found_in(answer: Answer) -> Result<u64, u8>
+    ensures { result ≡ found_in answer }
 {
     match answer {
-        Answer::Refused(n) => n,
-        Answer::Done => 0,
-        Answer::Epoch(_) => 0,
-        Answer::Listed(_) => 0,
-        Answer::Found(_) => 0,
-        Answer::Collected => 0,
-    }
-}
-
-fn object_of(answer: Answer) -> u64
-    ensures { result ≡ object_of answer }
-{
-    match answer {
-        Answer::Refused(_) => 0,
-        Answer::Done => 0,
-        Answer::Epoch(_) => 0,
-        Answer::Listed(_) => 0,
-        Answer::Found(n) => n,
-        Answer::Collected => 0,
+        Answer::Found(object) => Ok(object),
+        Answer::Refused(number) => Err(number),
+        _ => Ok(0),
     }
 }
 
@@ -75,23 +76,18 @@ fn object_of(answer: Answer) -> u64
 pub fn look(ledger: Ledger, time: u64, currency: u16, hold: u64) -> Looked
     ensures { result ≡ look_of ledger time currency hold }
 {
-    let names = [0u64; NAMES];
-    let list = NameList { count: 0, names };
     let step = Step {
         time,
         kind: Kind::Look { currency, hold },
-        list,
+        list: NameList {
+            count: 0,
+            names: [0; NAMES],
+        },
     };
     let answered = ledger.step(step);
-    let verdict = answered.verdict;
-    let answer = verdict.answer;
-    let code = code_of(answer);
-    let object = object_of(answer);
-    let next = answered.ledger;
     Looked {
-        code,
-        object,
-        ledger: next,
+        found: found_in(answered.verdict.answer),
+        ledger: answered.ledger,
     }
 }
 
@@ -102,41 +98,33 @@ fn charge(fare: u64, sheet: Sheet) -> u64
     requires { (fare ≤ largest_fare) × (sheet_formed sheet ≡ true) }
     ensures { result ≡ charge_of fare sheet.numerator sheet.denominator }
 {
-    (fare * sheet.numerator + (sheet.denominator - 1)) / sheet.denominator
+    (fare * sheet.numerator).div_ceil(sheet.denominator)
 }
 
-fn refused(code: u8, ledger: Ledger) -> SaleAnswer
-    ensures { result ≡ refused_sale code ledger }
+// The sale by a sheet and what the look found.
+fn sold(sheet: Sheet, currency: u16, fare: u64, found: Result<u64, u8>) -> Result<u64, SaleError>
+    requires { (fare ≤ largest_fare) × (sheet_formed sheet ≡ true) }
+    ensures { result ≡ sale_by sheet currency fare found }
+{
+    let object = found.map_err(SaleError::LookRefused)?;
+    if sheet.object != object || sheet.currency != currency {
+        return Err(SaleError::OtherSheet);
+    }
+    Ok(charge(fare, sheet))
+}
+
+fn refused(error: SaleError, ledger: Ledger) -> SaleAnswer
+    ensures { result ≡ refused_sale error ledger }
 {
     SaleAnswer {
-        sale: Sale::Refused(code),
+        sale: Err(error),
         ledger,
     }
 }
 
-// The sale by a sheet and what the look found: the ledger after the look, or where it is refused the one before.
-fn sold(ledger: Ledger, sheet: Sheet, currency: u16, fare: u64, found: Looked) -> SaleAnswer
-    requires { (fare ≤ largest_fare) × (sheet_formed sheet ≡ true) }
-    ensures { result ≡ sold_by ledger sheet currency fare found }
-{
-    if found.code != 0 {
-        return refused(found.code, ledger);
-    }
-    if sheet.object != found.object {
-        return refused(OTHER_SHEET, ledger);
-    }
-    if sheet.currency != currency {
-        return refused(OTHER_SHEET, ledger);
-    }
-    let units = charge(fare, sheet);
-    let next = found.ledger;
-    SaleAnswer {
-        sale: Sale::Charged(units),
-        ledger: next,
-    }
-}
-
-// A sale in that currency, by the current manifest or by that of a live hold, with the sheet lent as bytes.
+// A sale in that currency, by the current manifest or by that of a live hold, with the sheet lent as bytes: the ledger after
+// the look, or where it is refused the one before.
+#[tactic(auto, unfolding(crate::specs::Sale::sale_of))]
 pub fn sell(
     ledger: Ledger,
     time: u64,
@@ -147,19 +135,25 @@ pub fn sell(
 ) -> SaleAnswer
     ensures { result ≡ sale_of ledger time bytes.now currency hold fare }
 {
-    let read = sheets::read_sheet(bytes);
-    let SheetRead::Read(sheet) = read else {
-        return refused(MALFORMED, ledger);
+    let SheetRead::Read(sheet) = sheets::read_sheet(bytes) else {
+        return refused(SaleError::Malformed, ledger);
     };
     if LARGEST_FARE < fare {
-        return refused(MALFORMED, ledger);
+        return refused(SaleError::Malformed, ledger);
     }
-    let found = look(ledger, time, currency, hold);
-    sold(ledger, sheet, currency, fare, found)
+    let looked = look(ledger, time, currency, hold);
+    match sold(sheet, currency, fare, looked.found) {
+        Ok(units) => SaleAnswer {
+            sale: Ok(units),
+            ledger: looked.ledger,
+        },
+        Err(error) => refused(error, ledger),
+    }
 }
 
 // The route card
 
+// stays: the C interface: an entry of a card that C lends has the look's code, and its object or 0.
 #[derive(Clone, Copy)]
 pub struct Entry {
     pub currency: u16,
@@ -174,54 +168,46 @@ pub struct Filled {
 }
 
 // One entry, filled in by a look, and the ledger after it.
+#[tactic(auto, unfolding(crate::specs::Card::filled))]
 fn fill_entry(ledger: Ledger, time: u64, hold: u64, entry: Entry) -> Filled
     ensures { result ≡ filled ledger time hold entry }
 {
-    let currency = entry.currency;
-    let found = look(ledger, time, currency, hold);
-    let next = found.ledger;
+    let looked = look(ledger, time, entry.currency, hold);
+    let (code, object) = match looked.found {
+        Ok(object) => (0, object),
+        Err(number) => (number, 0),
+    };
     Filled {
         entry: Entry {
-            currency,
-            code: found.code,
-            object: found.object,
+            code,
+            object,
+            ..entry
         },
-        ledger: next,
+        ledger: looked.ledger,
     }
 }
 
-// Code 0 is a card that was filled in.
-#[derive(Clone, Copy)]
-pub struct CardAnswer {
-    pub code: u8,
-    pub ledger: Ledger,
-}
-
-// Fills in the first `count` entries in order, and hands the ledger on from look to look and back.
+// Fills in the first `count` entries in order, and hands the ledger on from look to look and back. None is a count above the
+// card's length, the paper's number 2: card and ledger stay as they are.
 pub fn fill_card(
     ledger: Ledger,
     time: u64,
     hold: u64,
     count: usize,
     card: &mut [Entry],
-) -> CardAnswer
+) -> Option<Ledger>
     ensures { (result ≡ answer_of ledger time hold count card.old) × (card.new ≡ card_of ledger time hold count card.old) }
 {
     if card.len() < count {
-        return CardAnswer {
-            code: MALFORMED,
-            ledger: ledger,
-        };
+        return None;
     }
-    let mut l = ledger;
-    let mut i: usize = 0;
-    while i < count {
-        let f = fill_entry(l, time, hold, card[i]);
-        card[i] = f.entry;
-        l = f.ledger;
-        i = i + 1;
+    let mut next = ledger;
+    for entry in &mut card[..count] {
+        let filled = fill_entry(next, time, hold, *entry);
+        *entry = filled.entry;
+        next = filled.ledger;
     }
-    CardAnswer { code: 0, ledger: l }
+    Some(next)
 }
 
 // The entries of a row by value.
@@ -229,27 +215,22 @@ pub const ROW: usize = 64;
 
 #[derive(Clone, Copy)]
 pub struct RowFilled {
-    pub code: u8,
     pub ledger: Ledger,
     pub entries: [Entry; ROW],
 }
 
 // A card of the first entries of a row, by value: its callers lend nothing.
+#[tactic(auto, unfolding(crate::specs::Card::row_of))]
 pub fn fill_row(
     ledger: Ledger,
     time: u64,
     hold: u64,
     count: usize,
     entries: [Entry; ROW],
-) -> RowFilled
+) -> Option<RowFilled>
     ensures { result ≡ row_of ledger time hold count entries }
 {
-    let mut card = entries;
-    let a = fill_card(ledger, time, hold, count, &mut card);
-    let next = a.ledger;
-    RowFilled {
-        code: a.code,
-        ledger: next,
-        entries: card,
-    }
+    let mut entries = entries;
+    let ledger = fill_card(ledger, time, hold, count, &mut entries)?;
+    Some(RowFilled { ledger, entries })
 }

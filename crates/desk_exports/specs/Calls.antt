@@ -1,18 +1,17 @@
 -- The sale desk as C sees it: what each call answers, and every element of the slices that it may write. A ledger is its numbers.
 -- Assumes nothing.
-use Rattle.std.specs.Prelude.{cond, List, [], ◌∷◌, ℕ, zero, suc, ◌+◌, ◌*◌, ◌/◌, ltb, length, get_or, set, replicate}
+use Rattle.std.specs.Prelude.{cond, List, [], ◌∷◌, ℕ, zero, suc, ◌+◌, ◌*◌, ◌/◌, Option, None, Some, Result, Ok, Err, ltb, length, get_or, set, replicate}
 use Rattle.fields.specs.Fields.{over}
 use Rattle.sheets.specs.declared.Sheet.{Sheet}
 use Rattle.sheets.specs.declared.SheetRead.{SheetRead}
 use Rattle.sheets.specs.declared.SheetRead.TheVariants.{Read, Malformed}
 use Rattle.sheets.specs.Sheets.{decode_sheet, sheet_writing, sheet_code}
-use Rattle.desk.specs.declared.Sale.{Sale}
-use Rattle.desk.specs.declared.Sale.TheVariants.{Charged, Refused}
+use Rattle.desk.specs.declared.SaleError.{SaleError}
 use Rattle.desk.specs.declared.SaleAnswer.{SaleAnswer}
 use Rattle.desk.specs.declared.Entry.{Entry}
 use Rattle.desk.specs.declared.RowFilled.{RowFilled}
 use Rattle.desk.specs.Sale.{sale_code, sale_of}
-use Rattle.desk.specs.Card.{row_of, row_limit}
+use Rattle.desk.specs.Card.{card_code, row_of, row_limit}
 use Rattle.exports.specs.Names.{Call}
 use Rattle.exports.specs.Codec.{written}
 use Rattle.ledger_numbers.specs.Numbers.{ledger_from, laid_back, ledger_size}
@@ -44,9 +43,12 @@ write_sheet numbers buffer = cond (ltb (length numbers) 4) (record { answer = 3;
 -- Sales
 
 -- a refused sale charges nothing
-abbrev pub charge_in : Sale → ℕ
-charge_in (Charged n) = n
-charge_in (Refused n) = 0
+abbrev pub charge_in : Result ℕ SaleError → ℕ
+charge_in (Ok n) = n
+charge_in (Err e) = 0
+
+abbrev pub sale_numbers : Result ℕ SaleError → List ℕ
+sale_numbers s = sale_code s ∷ charge_in s ∷ []
 
 pub record SaleCall : Type 0 where
   pub answer : ℕ
@@ -58,7 +60,7 @@ module _ (ledger : List ℕ) (time : ℕ) (sheet : List ℕ) (currency hold fare
   unsold = record { answer = 3; ledger = ledger; sale = sale }
 
   abbrev pub told : SaleAnswer → SaleCall
-  told a = record { answer = 0; ledger = laid_back a.ledger ledger; sale = over (sale_code a.sale ∷ charge_in a.sale ∷ []) sale }
+  told a = record { answer = 0; ledger = laid_back a.ledger ledger; sale = over (sale_numbers a.sale) sale }
 
   -- 3 where a slice is too short; 0 with the next ledger, the code and the charge
   unfoldable pub sell : SaleCall
@@ -91,8 +93,9 @@ module _ (ledger : List ℕ) (time hold count : ℕ) (card : List ℕ) where
   abbrev pub unfilled : ℕ → CardCall
   unfilled n = record { answer = n; ledger = ledger; card = card }
 
-  abbrev pub filled_in : RowFilled → CardCall
-  filled_in a = record { answer = a.code; ledger = laid_back a.ledger ledger; card = put_filled a.entries count card }
+  abbrev pub filled_in : Option RowFilled → CardCall
+  filled_in None = unfilled (card_code {A = RowFilled} None)
+  filled_in (Some a) = record { answer = card_code (Some a); ledger = laid_back a.ledger ledger; card = put_filled a.entries count card }
 
   -- 3 where the ledger's numbers are too few or the card is too long; 2 where it has fewer entries than the count
   unfoldable pub fill_card : CardCall

@@ -3,10 +3,9 @@
 
 ghost use Rattle.std.specs.Prelude.{◌≡◌, ◌*◌, ◌≤◌, length};
 ghost use Rattle.desk.specs.Card.{row_limit};
-ghost use Rattle.desk.specs.Sale.{sale_code};
-ghost use Rattle.desk_exports.specs.Calls.{narrow, charge_in, read_sheet, write_sheet, sell, row_from, put_filled, fill_card};
+ghost use Rattle.desk_exports.specs.Calls.{narrow, sale_numbers, read_sheet, write_sheet, sell, row_from, put_filled, fill_card};
 
-use desk::{Entry, ROW, Sale};
+use desk::{Entry, ROW, SaleError};
 use exports::{MALFORMED, NO_PLACE, codec};
 use ledger_numbers::LEDGER;
 use sheets::{Sheet, SheetRead};
@@ -22,23 +21,20 @@ const ENTRY: usize = 3;
 fn narrow_currency(c: u64) -> u16
     ensures { result ≡ narrow c }
 {
-    if 65535 < c {
-        return 65535;
-    }
-    c as u16
+    u16::try_from(c).unwrap_or(u16::MAX)
 }
 
 // Sheets
 
 // Reads all the bytes as one rate sheet: its four numbers.
+#[tactic(auto, unfolding(crate::specs::Calls::read_sheet))]
 pub fn cuudhaqil_read_sheet(bytes: &[u8], numbers: &mut [u64]) -> u64
     ensures { read_sheet bytes.now numbers.old ≡ record { answer = result; left = numbers.new } }
 {
     if numbers.len() < SHEET {
         return NO_PLACE;
     }
-    let read = sheets::read_sheet(bytes);
-    let SheetRead::Read(s) = read else {
+    let SheetRead::Read(s) = sheets::read_sheet(bytes) else {
         return MALFORMED;
     };
     let from = [s.object, s.currency as u64, s.numerator, s.denominator];
@@ -47,16 +43,16 @@ pub fn cuudhaqil_read_sheet(bytes: &[u8], numbers: &mut [u64]) -> u64
 }
 
 // Writes the record of a rate sheet, said as the reader says it, at the start of `out`.
+#[tactic(auto, unfolding(crate::specs::Calls::write_sheet))]
 pub fn cuudhaqil_write_sheet(numbers: &[u64], out: &mut [u8]) -> u64
     ensures { write_sheet numbers.now out.old ≡ record { answer = result; left = out.new } }
 {
     if numbers.len() < SHEET {
         return NO_PLACE;
     }
-    let currency = narrow_currency(numbers[1]);
     let sheet = Sheet {
         object: numbers[0],
-        currency,
+        currency: narrow_currency(numbers[1]),
         numerator: numbers[2],
         denominator: numbers[3],
     };
@@ -65,25 +61,18 @@ pub fn cuudhaqil_write_sheet(numbers: &[u64], out: &mut [u8]) -> u64
 
 // Sales
 
-fn sale_code(s: Sale) -> u64
-    ensures { result ≡ sale_code s }
+// The code and the charge of a sale.
+fn sale_numbers(sale: Result<u64, SaleError>) -> [u64; SALE]
+    ensures { result ≡ sale_numbers sale }
 {
-    match s {
-        Sale::Charged(_) => 0,
-        Sale::Refused(n) => n as u64,
-    }
-}
-
-fn charge_in(s: Sale) -> u64
-    ensures { result ≡ charge_in s }
-{
-    match s {
-        Sale::Charged(n) => n,
-        Sale::Refused(_) => 0,
+    match sale {
+        Ok(units) => [0, units],
+        Err(error) => [u64::from(error.number()), 0],
     }
 }
 
 // A sale on any ledger: the next ledger in its place, the code and the charge.
+#[tactic(auto, unfolding(crate::specs::Calls::sell))]
 pub fn cuudhaqil_sell(
     ledger: &mut [u64],
     time: u64,
@@ -95,20 +84,13 @@ pub fn cuudhaqil_sell(
 ) -> u64
     ensures { sell ledger.old time sheet.now currency hold fare sale.old ≡ record { answer = result; ledger = ledger.new; sale = sale.new } }
 {
-    if ledger.len() < LEDGER {
-        return NO_PLACE;
-    }
-    if sale.len() < SALE {
+    if ledger.len() < LEDGER || sale.len() < SALE {
         return NO_PLACE;
     }
     let old = ledger_numbers::ledger_from(ledger);
-    let money = narrow_currency(currency);
-    let sold = desk::sell(old, time, sheet, money, hold, fare);
-    let next = sold.ledger;
-    ledger_numbers::lay_back(next, ledger);
-    let told = sold.sale;
-    sale[0] = sale_code(told);
-    sale[1] = charge_in(told);
+    let sold = desk::sell(old, time, sheet, narrow_currency(currency), hold, fare);
+    ledger_numbers::lay_back(sold.ledger, ledger);
+    ledger_numbers::fill(&sale_numbers(sold.sale), sale);
     0
 }
 
@@ -119,40 +101,35 @@ fn row_from(card: &[u64], count: usize) -> [Entry; ROW]
     requires { (count ≤ row_limit) × (3 * count ≤ length card.now) }
     ensures { result ≡ row_from count card.now }
 {
-    let zero = Entry {
+    let blank = Entry {
         currency: 0,
         code: 0,
         object: 0,
     };
-    let mut row = [zero; ROW];
-    let mut i: usize = 0;
-    while i < count {
-        let currency = narrow_currency(card[ENTRY * i]);
-        row[i] = Entry {
-            currency,
-            code: 0,
-            object: 0,
+    let mut row = [blank; ROW];
+    for (i, entry) in row[..count].iter_mut().enumerate() {
+        *entry = Entry {
+            currency: narrow_currency(card[ENTRY * i]),
+            ..blank
         };
-        i += 1;
     }
     row
 }
 
 // Lays the codes and objects of the row's first entries over the card's.
-fn put_filled(row: [Entry; ROW], count: usize, card: &mut [u64])
+#[tactic(auto, unfolding(crate::specs::Calls::put_filled))]
+fn put_filled(row: &[Entry; ROW], count: usize, card: &mut [u64])
     requires { (count ≤ row_limit) × (3 * count ≤ length card.old) }
-    ensures { card.new ≡ put_filled row count card.old }
+    ensures { card.new ≡ put_filled row.now count card.old }
 {
-    let mut i: usize = 0;
-    while i < count {
-        let e = row[i];
-        card[ENTRY * i + 1] = e.code as u64;
-        card[ENTRY * i + 2] = e.object;
-        i += 1;
+    for (i, entry) in row[..count].iter().enumerate() {
+        card[ENTRY * i + 1] = u64::from(entry.code);
+        card[ENTRY * i + 2] = entry.object;
     }
 }
 
 // Fills in the first `count` entries of a card on any ledger: the next ledger in its place.
+#[tactic(auto, unfolding(crate::specs::Calls::fill_card))]
 pub fn cuudhaqil_fill_card(
     ledger: &mut [u64],
     time: u64,
@@ -175,10 +152,10 @@ pub fn cuudhaqil_fill_card(
     }
     let old = ledger_numbers::ledger_from(ledger);
     let row = row_from(card, n);
-    let filled = desk::fill_row(old, time, hold, n, row);
-    let next = filled.ledger;
-    ledger_numbers::lay_back(next, ledger);
-    let entries = filled.entries;
-    put_filled(entries, n, card);
-    filled.code as u64
+    let Some(filled) = desk::fill_row(old, time, hold, n, row) else {
+        return MALFORMED;
+    };
+    ledger_numbers::lay_back(filled.ledger, ledger);
+    put_filled(&filled.entries, n, card);
+    0
 }

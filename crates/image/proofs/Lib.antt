@@ -1,8 +1,8 @@
 pub mod Laying
 pub mod RowLaws
 pub mod Walks
-pub mod Putting
 pub mod Lengths
+pub mod Parts
 pub mod Things
 pub mod ReadsWritten
 pub mod WritesRead
@@ -10,6 +10,5 @@ pub mod Form
 pub mod RoundTrip
 pub mod Results
 pub mod Heads
-pub mod Kept
 pub mod Spots
 pub mod Filling

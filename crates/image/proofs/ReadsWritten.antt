@@ -1,7 +1,7 @@
 -- An image that was written is read as its ledger: row by row, and then whole. Assumes nothing.
-use mathlib.Core.Path.{◌≡◌, refl, sym, ap, ◌∙◌, subst}
+use mathlib.Core.Path.{◌≡◌, refl, sym, ap, ap₂, ◌∙◌, subst}
 use mathlib.Core.Logic.{inl, inr}
-use mathlib.Core.Bool.{Bool, true, cond}
+use mathlib.Core.Bool.{Bool, true, false, cond}
 use mathlib.Core.List.Memᴰ
 use mathlib.Core.List.{List, [], ◌∷◌, ◌++◌, append_assoc, append-nil, map}
 use Prim.Native.Nat.{ℕ, suc, ◌+◌, ◌^◌, ◌<◌}
@@ -10,15 +10,17 @@ use lib.Dec.{leb, ltb, eqb, lit<}
 use lib.ListN.{length, get_or, drop, length-append, length-map}
 use lib.Seq.{drop_at, drop-drop}
 use borrow.Author.Tests.{le-leb, leb-true, lt-ltb, eq-eqb}
+use Rattle.std.specs.Prelude.{Option, None, Some, is_some, unwrap_or, Ok, Err}
+use Rattle.std.specs.Option.{option_map}
 use Rattle.fields.specs.Fields.{field}
 use Rattle.fields.proofs.Fields.{length-field, claimed-field}
 use Rattle.rules.specs.declared.Object.{Object}
 use Rattle.rules.specs.declared.Hold.{Hold}
 use Rattle.rules.specs.Lists.{◌∈◌, all}
 use Rattle.rules.specs.Limits.{limits, manifest_limit, word_bits, word_count}
-use Rattle.rules.specs.State.{Manifest, State, occupied, kept}
+use Rattle.rules.specs.State.{Manifest, State, free, occupied, kept}
 use Rattle.rules.specs.Sound.{sound}
-use Rattle.rules.proofs.Lists.{and_both, true-conj}
+use Rattle.rules.proofs.Lists.{and_both}
 use Rattle.rules.proofs.Shape.{Shape, shape_of}
 use Rattle.rules.proofs.Bounds.{nine_enough}
 use Rattle.objects.specs.Occupancy.{words_of}
@@ -29,25 +31,24 @@ use Rattle.records.proofs.WalkLaws.{behind-head}
 use Rattle.records.proofs.RoundTripRecords.{all-below}
 use Rattle.ledger.specs.Ledger.{lay}
 use Rattle.ledger.proofs.SoundLaw.{lay-sound}
-use Rattle.image.specs.declared.Spot.{Spot}
-use Rattle.image.specs.declared.Reading.TheVariants.{Read, Unsound, Malformed}
-use Rattle.image.specs.Rows.{Cells, Row, Rows, row_of, row_at, bytes_from, total}
+use Rattle.image.specs.declared.LoadError.TheVariants.{Malformed}
+use Rattle.image.specs.Rows.{Rows, row_of, bytes_from, found_as}
 use Rattle.image.specs.Fit.{fits}
 use Rattle.image.specs.Format.{edition_row, clock_row, collected_row, edition, single, object_row, object_cells, manifest_row, manifest_cells, manifest_from, hold_row, hold_cells, hold_from}
 use Rattle.image.specs.Image.{image_tag, head_bytes, place_bytes, manifest_bytes, hold_bytes, image_of}
-use Rattle.image.specs.Reading.{place_at, manifest_at, hold_at, places_of, kept_of, holds_of, clock_at, collected_at, rows_begin, is_headed, kept_begin, holds_begin, rows_end, ledger_in, objects_of, sound_or, refused, read_of}
+use Rattle.image.specs.Reading.{number_at, place_at, manifest_at, hold_at, places_of, kept_of, holds_of, clock_at, collected_at, rows_begin, is_headed, kept_begin, holds_begin, rows_end, ledger_in, objects_of, sound_or, read_of}
 use Rattle.image.specs.Form.{Said, spot_bytes, content as content_said, bytes_of, ledger_said, InForm}
 use Rattle.image.specs.RoundTrip.{Fits}
 use Rattle.image.proofs.RowLaws.{CellsFit, row_there, row_other, length-row}
 use Rattle.image.proofs.Walks.{Each, rows_there}
 use Rattle.image.proofs.Spots.{places-each}
 use Rattle.image.proofs.Lengths.{length-head-rows, spots_bound, manifests_bound, length-holds, length_parts}
-use Rattle.image.proofs.Heads.{is_image_lem}
+use Rattle.image.proofs.Heads.{headed_by, is_image_lem}
 
 -- ---- a row of one number
 
 single_fit : (tag w n : ℕ) → leb w 8 ≡ true → n < 256 ^ w → CellsFit (record { tag = tag; widths = w ∷ []; names = 0 }) (single n)
-unfolding fits total all
+unfolding fits all
 single_fit tag w n short h = record {
   narrow = and_both (leb w 8) true short refl;
   numbers = and_both (ltb n (256 ^ w)) true (lt-ltb n (256 ^ w) h) refl;
@@ -56,6 +57,12 @@ single_fit tag w n short h = record {
   short = omega (arith, leb-true w 8 short);
 }
 
+-- it is read as its number
+single_there : (tag w n : ℕ) (rest : List ℕ) → leb w 8 ≡ true → n < 256 ^ w
+    → number_at (record { tag = tag; widths = w ∷ []; names = 0 }) (row_of (record { tag = tag; widths = w ∷ []; names = 0 }) (single n) ++ rest) ≡ Some n
+single_there tag w n rest short h =
+    ap (option_map (λ r. get_or r.value.numbers 0 0)) (row_there (record { tag = tag; widths = w ∷ []; names = 0 }) (single n) rest (single_fit tag w n short h))
+
 -- ---- manifests and holds
 
 manifests-each : (p : ℕ) (ms : List Manifest) (r : List ℕ) → ((m : Manifest) → m ∈ ms → CellsFit manifest_row (manifest_cells m)) → Each manifest_bytes manifest_at p ms r
@@ -63,14 +70,14 @@ unfolding Each manifest_bytes
 manifests-each p [] r fit = tt
 manifests-each p (m ∷ ms) r fit =
     let e = row_there manifest_row (manifest_cells m) (bytes_from manifest_bytes (suc p) ms ++ r) (fit m (Memᴰ.head refl)) in
-    ((λ i. record { found = (e i).found; size = (e i).size; value = manifest_from (e i).value }), manifests-each (suc p) ms r (λ x k. fit x (Memᴰ.tail k)))
+    (ap (option_map (found_as manifest_from)) e, manifests-each (suc p) ms r (λ x k. fit x (Memᴰ.tail k)))
 
 holds-each : (p : ℕ) (xs : List Hold) (r : List ℕ) → ((x : Hold) → x ∈ xs → CellsFit hold_row (hold_cells x)) → Each hold_bytes hold_at p xs r
 unfolding Each hold_bytes
 holds-each p [] r fit = tt
 holds-each p (x ∷ xs) r fit =
     let e = row_there hold_row (hold_cells x) (bytes_from hold_bytes (suc p) xs ++ r) (fit x (Memᴰ.head refl)) in
-    ((λ i. record { found = (e i).found; size = (e i).size; value = hold_from (e i).value.numbers }), holds-each (suc p) xs r (λ y k. fit y (Memᴰ.tail k)))
+    (ap (option_map (found_as (λ c. hold_from c.numbers))) e, holds-each (suc p) xs r (λ y k. fit y (Memᴰ.tail k)))
 
 -- what a group of rows begins with
 holds_begin_lem : (p : ℕ) (xs : List Hold) → get_or (bytes_from hold_bytes p xs) 0 0 ≡ 0x65 → ⊥
@@ -112,42 +119,37 @@ module _ (s : Said) (fit : InForm s) where
   content = content_said s
 
   -- the rows of one number
-  edition_there : row_at edition_row content ≡ record { found = true; size = length r1; value = single edition }
-  edition_there = ap (row_at edition_row) (append_assoc r1 (r2 ++ r3) rest) ∙ row_there edition_row (single edition) ((r2 ++ r3) ++ rest) (single_fit 0x61 1 edition refl (lit< tt))
+  edition_there : number_at edition_row content ≡ Some edition
+  edition_there = ap (number_at edition_row) (append_assoc r1 (r2 ++ r3) rest) ∙ single_there 0x61 1 edition ((r2 ++ r3) ++ rest) refl (lit< tt)
 
   behind-first : drop clock_at content ≡ r2 ++ (r3 ++ rest)
-  unfolding total
   behind-first =
       ap (drop clock_at) (append_assoc r1 (r2 ++ r3) rest) ∙ drop_at r1 ((r2 ++ r3) ++ rest) clock_at (length-row edition_row (single edition) refl) ∙ append_assoc r2 r3 rest
 
   behind-second : drop collected_at content ≡ r3 ++ rest
-  unfolding total
   behind-second = sym (drop-drop 11 clock_at content) ∙ ap (drop 11) behind-first ∙ drop_at r2 (r3 ++ rest) 11 (length-row clock_row (single s.clock) refl)
 
   behind-head-rows : drop rows_begin content ≡ rest
   behind-head-rows = drop_at (head_bytes s.clock s.collected) rest rows_begin (length-head-rows s.clock s.collected)
 
-  clock_there : row_at clock_row (drop clock_at content) ≡ record { found = true; size = length r2; value = single s.clock }
-  clock_there = ap (row_at clock_row) behind-first ∙ row_there clock_row (single s.clock) (r3 ++ rest) (single_fit 0x62 8 s.clock refl fit.clock)
+  clock_there : number_at clock_row (drop clock_at content) ≡ Some s.clock
+  clock_there = ap (number_at clock_row) behind-first ∙ single_there 0x62 8 s.clock (r3 ++ rest) refl fit.clock
 
-  collected_there : row_at collected_row (drop collected_at content) ≡ record { found = true; size = length r3; value = single s.collected }
-  collected_there = ap (row_at collected_row) behind-second ∙ row_there collected_row (single s.collected) rest (single_fit 0x63 8 s.collected refl fit.collected)
+  collected_there : number_at collected_row (drop collected_at content) ≡ Some s.collected
+  collected_there = ap (number_at collected_row) behind-second ∙ single_there 0x63 8 s.collected rest refl fit.collected
 
   headed : is_headed content ≡ true
-  headed = true-conj _ (
-    ap (λ (r : Row Cells). r.found) edition_there,
-    (eq-eqb _ edition (ap (λ (r : Row Cells). get_or r.value.numbers 0 0) edition_there), (ap (λ (r : Row Cells). r.found) clock_there, (ap (λ (r : Row Cells). r.found) collected_there, tt))),
-  )
+  headed = headed_by content edition_there clock_there collected_there
 
   -- the places
   places_there : places_of rest ≡ record { values = s.spots; size = length P }
   places_there =
       rows_there spot_bytes place_at limits.places 0 s.spots (M ++ X) (omega (arith, fit.places))
-      (places-each 0 s.spots (M ++ X) (omega (arith, fit.places)) (λ x i. record { clear = fit.clear x i; fit = fit.objects x i }) (later_begin 0 0 s.manifests s.holds)) (inl fit.places)
+      (places-each 0 s.spots (M ++ X) (omega (arith, fit.places)) fit.objects (later_begin 0 0 s.manifests s.holds)) (inl fit.places)
 
   -- the manifests
   kept_there : kept_of (M ++ X) ≡ record { values = s.manifests; size = length M }
-  unfolding total all
+  unfolding all
   kept_there =
       rows_there manifest_bytes manifest_at (manifest_limit limits) 0 s.manifests X fit.keeps
       (manifests-each 0 s.manifests X (λ m i. record {
@@ -157,11 +159,11 @@ module _ (s : Said) (fit : InForm s) where
         few = fit.short m i;
         short = lit< tt;
       }))
-      (inr (λ q. ap (λ (r : Row Cells). r.found) (row_other manifest_row X (holds_begin_lem 0 s.holds))))
+      (inr (λ q. ap (option_map (found_as manifest_from)) (row_other manifest_row X (holds_begin_lem 0 s.holds))))
 
   -- the holds
   holds_there : holds_of X ≡ record { values = s.holds; size = length X }
-  unfolding total all
+  unfolding all
   holds_there =
       ap holds_of (sym (append-nil X))
       ∙ rows_there hold_bytes hold_at limits.holds 0 s.holds [] fit.few
@@ -172,14 +174,14 @@ module _ (s : Said) (fit : InForm s) where
         few = omega arith;
         short = lit< tt;
       }))
-      (inr (λ q. ap (λ (r : Row Cells). r.found) (row_other hold_row [] (λ e. omega (arith, e)))))
+      (inr (λ q. ap (option_map (found_as (λ c. hold_from c.numbers))) (row_other hold_row [] (λ e. omega (arith, e)))))
 
   -- where each group begins
   places-read : places_of (drop rows_begin content) ≡ record { values = s.spots; size = length P }
   places-read = ap places_of behind-head-rows ∙ places_there
 
   kept_begins : kept_begin content ≡ rows_begin + length P
-  kept_begins = ap (λ (r : Rows Spot). rows_begin + r.size) places-read
+  kept_begins = ap (λ (r : Rows (Option Object)). rows_begin + r.size) places-read
 
   behind_places : drop (kept_begin content) content ≡ M ++ X
   behind_places =
@@ -205,8 +207,8 @@ module _ (s : Said) (fit : InForm s) where
   said : ledger_in content ≡ ledger_said s
   unfolding ledger_in
   said = λ i. record {
-    clock = ap (λ (r : Row Cells). get_or r.value.numbers 0 0) clock_there i;
-    collected = ap (λ (r : Row Cells). get_or r.value.numbers 0 0) collected_there i;
+    clock = unwrap_or (clock_there i) 0;
+    collected = unwrap_or (collected_there i) 0;
     objects = objects_of (places-read i).values;
     manifests = lay_manifests (kept_read i).values;
     holds = lay_holds (holds_read_lem i).values;
@@ -228,27 +230,48 @@ module _ (s : Said) (fit : InForm s) where
   pub formed : read_of (bytes_of s) ≡ sound_or (ledger_said s)
   unfolding read_of
   formed =
-      ap (λ (b : Bool). cond b (sound_or (ledger_in (drop 3 (bytes_of s)))) (refused Malformed))
+      ap (λ (b : Bool). cond b (sound_or (ledger_in (drop 3 (bytes_of s)))) (Err Malformed))
       (is_image_lem (bytes_of s) whole refl (ap is_headed behind ∙ headed) (ap (λ (c : List ℕ). eqb (rows_end c) (length c)) behind ∙ eq-eqb (rows_end content) (length content) ends))
       ∙ ap sound_or (ap ledger_in behind ∙ said)
 
 -- ---- the image of a sound ledger
 
-abbrev spot_of : Object → Spot
-spot_of o = record { taken = occupied o; object = o }
+abbrev spot_of : Object → Option Object
+spot_of o = cond (occupied o) (Some o) None
 
 spots_of : (p : ℕ) (os : List Object) → bytes_from spot_bytes p (map spot_of os) ≡ bytes_from place_bytes p os
 unfolding bytes_from place_bytes
 spots_of p [] = refl
-spots_of p (o ∷ os) = ap (spot_bytes p (spot_of o) ++◌) (spots_of (suc p) os)
+spots_of p (o ∷ os) = ap₂ (λ (u v : List ℕ). u ++ v) (by (occupied o)) (spots_of (suc p) os)
+  where
+    by : (b : Bool) → spot_bytes p (cond b (Some o) None) ≡ cond b (row_of object_row (object_cells p o)) []
+    by true = refl
+    by false = refl
 
-takens : (os : List Object) → map (λ (s : Spot). s.taken) (map spot_of os) ≡ map occupied os
+takens : (os : List Object) → map is_some (map spot_of os) ≡ map occupied os
 takens [] = refl
-takens (o ∷ os) = ap (λ l. occupied o ∷ l) (takens os)
+takens (o ∷ os) = λ i. by (occupied o) i ∷ takens os i
+  where
+    by : (b : Bool) → is_some (cond b (Some o) None) ≡ b
+    by true = refl
+    by false = refl
 
-items : (os : List Object) → map (λ (s : Spot). s.object) (map spot_of os) ≡ os
-items [] = refl
-items (o ∷ os) = ap (λ l. o ∷ l) (items os)
+-- a free place is all zero
+items : (os : List Object) → ((o : Object) → o ∈ os → occupied o ≡ false → o ≡ free) → map (λ s. unwrap_or s free) (map spot_of os) ≡ os
+items [] unused = refl
+items (o ∷ os) unused = λ i. by (occupied o) refl i ∷ items os (λ x k. unused x (Memᴰ.tail k)) i
+  where
+    by : (b : Bool) → occupied o ≡ b → unwrap_or (cond b (Some o) None) free ≡ o
+    by true e = refl
+    by false e = sym (unused o (Memᴰ.head refl) e)
+
+-- an object that is there stands in its place
+object-in : (os : List Object) (o : Object) → Some o ∈ map spot_of os → o ∈ os
+object-in os o i = let x = Memᴰ.of_map spot_of os i in subst (λ y. y ∈ os) (by x.0 (occupied x.0) x.2) x.1
+  where
+    by : (x : Object) (b : Bool) → cond b (Some x) None ≡ Some o → x ≡ o
+    by x true e = cc
+    by x false e = cc
 
 module _ (s : State) (good : sound limits s ≡ true) (fit : Fits s) where
   abbrev said_by : Said
@@ -262,8 +285,7 @@ module _ (s : State) (good : sound limits s ≡ true) (fit : Fits s) where
     clock = fit.clock;
     collected = fit.collected;
     places = length-map s.places spot_of ∙ shape.size;
-    clear = λ x i z. let o = Memᴰ.of_map spot_of s.places i in ap (λ (y : Spot). y.object) (sym o.2) ∙ shape.unused o.0 o.1 (ap (λ (y : Spot). y.taken) o.2 ∙ z);
-    objects = λ x i. let o = Memᴰ.of_map spot_of s.places i in subst (λ (y : Spot). fits object_row.widths (object_cells 0 y.object).numbers ≡ true) o.2 (fit.objects o.0 o.1);
+    objects = λ o i. fit.objects o (object-in s.places o i);
     keeps = omega (arith, length-append s.older (s.current ∷ []), nine_enough limits s good);
     manifests = fit.manifests;
     short = shape.short;
@@ -280,11 +302,11 @@ module _ (s : State) (good : sound limits s ≡ true) (fit : Fits s) where
   ledger_is = λ i. record {
     clock = s.clock;
     collected = s.highest_collected;
-    objects = record { occupancy = words_of word_bits word_count (takens s.places i); items = items s.places i };
+    objects = record { occupancy = words_of word_bits word_count (takens s.places i); items = items s.places shape.unused i };
     manifests = lay_manifests (kept s);
     holds = lay_holds s.holds;
   }
 
-  pub reads_written_lem : read_of (image_of s) ≡ record { reading = Read; ledger = lay s }
+  pub reads_written_lem : read_of (image_of s) ≡ Ok (lay s)
   reads_written_lem =
-      ap read_of (sym image_is) ∙ formed said_by in_form ∙ ap sound_or ledger_is ∙ ap (λ (b : Bool). cond b (record { reading = Read; ledger = lay s }) (refused Unsound)) (lay-sound s good)
+      ap read_of (sym image_is) ∙ formed said_by in_form ∙ ap sound_or ledger_is ∙ rw (lay-sound s good)

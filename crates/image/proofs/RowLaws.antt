@@ -11,8 +11,8 @@ use lib.Dec.{leb, ltb, eqb, lit<}
 use lib.ListN.{length, get_or, take, drop, replicate, drop_of_length-le, length-append, length-take, length-drop}
 use lib.Seq.{drop-cons, drop-drop, take_at, drop_at, take-add, length-take-le}
 use borrow.Author.Tests.{le-leb, lt-leb, leb-true, eq-eqb, ne_eqb, eqb-true, ltb-true, lt-ltb}
-use Rattle.fields.specs.declared.Head.{Head}
-use Rattle.fields.specs.declared.Head.TheVariants.{Holds, Bad}
+use Rattle.std.specs.Prelude.{Option, None, Some}
+use Rattle.std.specs.Option.{option_map}
 use Rattle.fields.specs.Bytes.{be, value_of, kept64, words, words_of}
 use Rattle.fields.specs.Fields.{field, head_of, over}
 use Rattle.fields.proofs.Bytes.{Below, below-take, below-drop, length-be, value-be-fits, be-value, value-below, kept, kept-value, length-words, length-words_of, words_of-words, words_of-below, words-words_of}
@@ -21,34 +21,21 @@ use Rattle.records.proofs.Pieces.{behind, over-all, length-head, length_over}
 use Rattle.arrays.specs.Arrays.{pad}
 use Rattle.rules.specs.Lists.{all}
 use Rattle.rules.proofs.Lists.{and_left, and_right, and_both}
-use Rattle.image.specs.Rows.{Format, Cells, Row, bare, total, numbers_of, row_of, absent, has_form, formed_by, row_head, present, row_in, row_at}
+use Rattle.image.specs.declared.rows.Found.{Found}
+use Rattle.image.specs.Rows.{Format, Cells, bare, total, numbers_of, row_of, has_form, formed_by, row_head, present, row_at}
 use Rattle.image.specs.Fit.{narrow, fits}
 use Rattle.image.proofs.Laying.{over_more}
 
 -- ---- numbers in their widths
 
 pub length-bare : (ws ns : List ℕ) → length ws ≡ length ns → length (bare ws ns) ≡ total ws
-unfolding bare total
+unfolding bare
 length-bare [] ns e = refl
 length-bare (w ∷ ws) [] e = absurd (omega (arith, e))
 length-bare (w ∷ ws) (n ∷ ns) e = omega (arith, length-append (be w n) (bare ws ns), length-be w n, length-bare ws ns (omega (arith, e)))
 
-pub bare-from : (ws ns : List ℕ) (i : ℕ) → i < length ws → length ws ≡ length ns
-    → bare (drop i ws) (drop i ns) ≡ be (get_or ws i 0) (get_or ns i 0) ++ bare (drop (i + 1) ws) (drop (i + 1) ns)
-unfolding bare
-bare-from ws ns i h e = rw (add-one, drop-cons ws i 0 h, drop-cons ns i 0 (omega (arith, e, h)))
-
-pub bare_end : (ws ns : List ℕ) (i : ℕ) → length ws ≤ i → bare (drop i ws) ns ≡ []
-unfolding bare
-bare_end ws ns i h = rw (drop_of_length-le ws h)
-
 pub total-from : (ws : List ℕ) (i : ℕ) → i < length ws → total (drop i ws) ≡ get_or ws i 0 + total (drop (i + 1) ws)
-unfolding total
 total-from ws i h = rw (add-one, drop-cons ws i 0 h)
-
-pub total_end : (ws : List ℕ) (i : ℕ) → length ws ≤ i → total (drop i ws) ≡ 0
-unfolding total
-total_end ws i h = rw (drop_of_length-le ws h)
 
 pub numbers-from : (ws bs : List ℕ) (i : ℕ) → i < length ws
     → numbers_of (drop i ws) bs ≡ kept64 (value_of (take (get_or ws i 0) bs)) ∷ numbers_of (drop (i + 1) ws) (drop (get_or ws i 0) bs)
@@ -90,7 +77,7 @@ numbers-bare (w ∷ ws) (n ∷ ns) rest t e =
     rw (append_assoc, take_at (be w n) (bare ws ns ++ rest) w (length-be w n), drop_at (be w n) (bare ws ns ++ rest) w (length-be w n), first, numbers-bare ws ns rest (and_right (leb w 8) (narrow ws) t) (and_right (ltb n (256 ^ w)) (fits ws ns) e))
 
 pub bare-numbers : (ws bs : List ℕ) → narrow ws ≡ true → Below 256 bs → total ws ≤ length bs → bare ws (numbers_of ws bs) ≡ take (total ws) bs
-unfolding numbers_of bare total all
+unfolding numbers_of bare all
 bare-numbers [] bs t h room = refl
 bare-numbers (w ∷ ws) bs t h room =
     let short = leb-true w 8 (and_left (leb w 8) (narrow ws) t) in
@@ -100,7 +87,7 @@ bare-numbers (w ∷ ws) bs t h room =
     rw (take-add w (total ws) bs, kept-value (take w bs) bytes (omega arith), first, bare-numbers ws (drop w bs) (and_right (leb w 8) (narrow ws) t) (below-drop 256 w bs h) (omega (arith, length-drop w bs)))
 
 pub fits-numbers : (ws bs : List ℕ) → narrow ws ≡ true → Below 256 bs → total ws ≤ length bs → fits ws (numbers_of ws bs) ≡ true
-unfolding numbers_of fits total all
+unfolding numbers_of fits all
 fits-numbers [] bs t h room = refl
 fits-numbers (w ∷ ws) bs t h room =
     let short = leb-true w 8 (and_left (leb w 8) (narrow ws) t) in
@@ -113,103 +100,76 @@ fits-numbers (w ∷ ws) bs t h room =
 
 -- ---- the reader's cases
 
--- whether a head holds a value, and how long that is
-abbrev is_held : Head → Bool
-is_held Bad = false
-is_held (Holds n) = true
-
-abbrev size_held : Head → ℕ
-size_held Bad = 0
-size_held (Holds n) = n
-
 module _ (tag w most : ℕ) (bs : List ℕ) where
-  pub head_bad : head_of tag bs ≡ Bad → row_head tag w most bs ≡ Bad
+  pub head_bad : head_of tag bs ≡ None → row_head tag w most bs ≡ None
   unfolding row_head
   head_bad e = rw e
 
-  module _ (n : ℕ) (held : head_of tag bs ≡ Holds n) where
-    head-not : has_form w most n ≡ false → row_head tag w most bs ≡ Bad
+  module _ (n : ℕ) (held : head_of tag bs ≡ Some n) where
+    head-not : has_form w most n ≡ false → row_head tag w most bs ≡ None
     unfolding row_head
-    head-not e = rw held (ap (λ (b : Bool). cond b (Holds n) Bad) e)
+    head-not e = rw held (ap (λ (b : Bool). cond b (Some n) None) e)
 
-    pub head-short : n < w → row_head tag w most bs ≡ Bad
+    pub head-short : n < w → row_head tag w most bs ≡ None
     head-short h = head-not (rw (lt-leb w n h))
 
-    pub head_odd : ((n - w) % 8 ≡ 0 → ⊥) → row_head tag w most bs ≡ Bad
+    pub head_odd : ((n - w) % 8 ≡ 0 → ⊥) → row_head tag w most bs ≡ None
     head_odd h = head-not (rw (ne_eqb ((n - w) % 8) 0 h) (and-false (leb w n)))
 
-    pub head_many : most < (n - w) / 8 → row_head tag w most bs ≡ Bad
+    pub head_many : most < (n - w) / 8 → row_head tag w most bs ≡ None
     head_many h = head-not (rw (lt-leb ((n - w) / 8) most h, and-false (eqb ((n - w) % 8) 0)) (and-false (leb w n)))
 
-    pub head-good : w ≤ n → (n - w) % 8 ≡ 0 → (n - w) / 8 ≤ most → row_head tag w most bs ≡ Holds n
+    pub head-good : w ≤ n → (n - w) % 8 ≡ 0 → (n - w) / 8 ≤ most → row_head tag w most bs ≡ Some n
     unfolding row_head
     head-good h e g = rw (held, le-leb w n h, eq-eqb ((n - w) % 8) 0 e, le-leb ((n - w) / 8) most g)
 
   -- what a head that was found says of the bytes: its value has the form, and there is room for it
   pub record Formed (n : ℕ) : Type 0 where
-    pub held : head_of tag bs ≡ Holds n
+    pub held : head_of tag bs ≡ Some n
     pub room : 3 + n ≤ length bs
     pub wide : w ≤ n
     pub whole : n ≡ w + 8 * ((n - w) / 8)
     pub few : (n - w) / 8 ≤ most
 
-  pub head-formed : (n : ℕ) → row_head tag w most bs ≡ Holds n → Formed n
+  pub head-formed : (n : ℕ) → row_head tag w most bs ≡ Some n → Formed n
   unfolding row_head
   head-formed n = by (head_of tag bs) refl
     where
-      formed : (m : ℕ) → head_of tag bs ≡ Holds m → has_form w most m ≡ true → Formed m
-      formed m e g =
-          let g1 = leb-true w m (and_left (leb w m) _ g) in
-          let g2 = and_right (leb w m) (eqb ((m - w) % 8) 0 && leb ((m - w) / 8) most) g in
-          let g3 = eqb-true ((m - w) % 8) 0 (and_left (eqb ((m - w) % 8) 0) (leb ((m - w) / 8) most) g2) in
-          record { held = e; room = (head_read tag m bs e).2; wide = g1; whole = omega (arith, g1, g3); few = leb-true ((m - w) / 8) most (and_right (eqb ((m - w) % 8) 0) (leb ((m - w) / 8) most) g2) }
+      formed : head_of tag bs ≡ Some n → has_form w most n ≡ true → Formed n
+      formed e g =
+          let g1 = leb-true w n (and_left (leb w n) _ g) in
+          let g2 = and_right (leb w n) (eqb ((n - w) % 8) 0 && leb ((n - w) / 8) most) g in
+          let g3 = eqb-true ((n - w) % 8) 0 (and_left (eqb ((n - w) % 8) 0) (leb ((n - w) / 8) most) g2) in
+          record { held = e; room = (head_read tag n bs e).2; wide = g1; whole = omega (arith, g1, g3); few = leb-true ((n - w) / 8) most (and_right (eqb ((n - w) % 8) 0) (leb ((n - w) / 8) most) g2) }
 
-      by : (d : Head) → head_of tag bs ≡ d → formed_by w most d ≡ Holds n → Formed n
-      by Bad e z = absurd (false≢true (ap is_held z))
-      by (Holds m) e z = step (has_form w most m) refl z
+      by : (d : Option ℕ) → head_of tag bs ≡ d → formed_by w most d ≡ Some n → Formed n
+      by None e z = cc
+      by (Some m) e z = step (has_form w most m) refl z
         where
-          step : (b : Bool) → has_form w most m ≡ b → cond b (Holds m) Bad ≡ Holds n → Formed n
-          step true q z = subst Formed (ap size_held z) (formed m e q)
-          step false q z = absurd (false≢true (ap is_held z))
+          step : (b : Bool) → has_form w most m ≡ b → cond b (Some m) None ≡ Some n → Formed n
+          step true q z = let same : m ≡ n = cc in formed (cc) (cc)
+          step false q z = cc
 
 module _ (f : Format) (bs : List ℕ) where
-  abbrev found-head : Head
+  abbrev found-head : Option ℕ
   found-head = row_head f.tag (total f.widths) f.names bs
 
-  pub row_bad : row_head f.tag (total f.widths) f.names bs ≡ Bad → row_at f bs ≡ absent
+  pub row_bad : row_head f.tag (total f.widths) f.names bs ≡ None → row_at f bs ≡ None
   unfolding row_at
   row_bad e = rw e
 
-  pub row_is : (n : ℕ) → row_head f.tag (total f.widths) f.names bs ≡ Holds n → row_at f bs ≡ present f bs n
+  pub row_is : (n : ℕ) → row_head f.tag (total f.widths) f.names bs ≡ Some n → row_at f bs ≡ Some (present f bs n)
   unfolding row_at
   row_is n e = rw e
 
-  -- a row that is not found says nothing
-  pub row_unfound : (row_at f bs).found ≡ false → row_at f bs ≡ absent
+  -- what holds of every row that has the form holds of the row at the front
+  row-found : (P : Found Cells → Type 0) → ((n : ℕ) → Formed f.tag (total f.widths) f.names bs n → P (present f bs n)) → (r : Found Cells) → row_at f bs ≡ Some r → P r
   unfolding row_at
-  row_unfound = by found-head
+  row-found P there r = by found-head refl
     where
-      by : (d : Head) → (row_in f bs d).found ≡ false → row_in f bs d ≡ absent
-      by Bad z = refl
-      by (Holds n) z = absurd (false≢true (sym z))
-
-  -- what holds of every row that has the form holds of the row at the front, where it is found
-  module _ (P : Row Cells → Type 0) (there : (n : ℕ) → Formed f.tag (total f.widths) f.names bs n → P (present f bs n)) where
-    row-found : (row_at f bs).found ≡ true → P (row_at f bs)
-    unfolding row_at
-    row-found = by found-head refl
-      where
-        by : (d : Head) → found-head ≡ d → (row_in f bs d).found ≡ true → P (row_in f bs d)
-        by Bad e z = absurd (false≢true z)
-        by (Holds n) e z = there n (head-formed f.tag (total f.widths) f.names bs n e)
-
-    -- and of every row, where it holds of none
-    row_any : P absent → P (row_at f bs)
-    row_any none = by (row_at f bs).found refl
-      where
-        by : (b : Bool) → (row_at f bs).found ≡ b → P (row_at f bs)
-        by true e = row-found e
-        by false e = subst P (sym (row_unfound e)) none
+      by : (d : Option ℕ) → found-head ≡ d → option_map (present f bs) d ≡ Some r → P r
+      by None e z = cc
+      by (Some n) e z = let same : present f bs n ≡ r = cc in subst P same (there n (head-formed f.tag (total f.widths) f.names bs n e))
 
 -- ---- a row
 
@@ -246,7 +206,7 @@ module _ (f : Format) (c : Cells) where
     count : (n : ℕ) → n ≡ total f.widths + 8 * length c.names → (n - total f.widths) / 8 ≡ length c.names
     count n e = omega arith
 
-    said : (n : ℕ) → n ≡ total f.widths + 8 * length c.names → present f bytes n ≡ record { found = true; size = length (row_of f c); value = c }
+    said : (n : ℕ) → n ≡ total f.widths + 8 * length c.names → present f bytes n ≡ record { value = c; size = length (row_of f c) }
     said n e =
         let k = count n e in
         let long : 3 + n ≡ length (row_of f c) = omega (arith, length-row (fits-length f.widths c.numbers fit.numbers), e) in
@@ -254,13 +214,13 @@ module _ (f : Format) (c : Cells) where
         ap (numbers_of f.widths) (behind-head ∙ append_assoc (bare f.widths c.numbers) (words c.names) rest) ∙ numbers-bare f.widths c.numbers (words c.names ++ rest) fit.narrow fit.numbers in
         let names : words_of ((n - total f.widths) / 8) (drop (3 + total f.widths) bytes) ≡ c.names =
         ap (λ (j : ℕ). words_of j (drop (3 + total f.widths) bytes)) k ∙ ap (words_of (length c.names)) behind-numbers ∙ words_of-words c.names rest fit.names in
-        λ i. record { found = true; size = long i; value = record { numbers = numbers i; names = names i } }
+        λ i. record { value = record { numbers = numbers i; names = names i }; size = long i }
 
-    pub row_there : row_at f bytes ≡ record { found = true; size = length (row_of f c); value = c }
+    pub row_there : row_at f bytes ≡ Some (record { value = c; size = length (row_of f c) })
     row_there =
         let n = length content in
         let held = head-field f.tag content rest (omega (arith, many, fit.few, fit.short)) in
-        row_is f bytes n (head-good f.tag (total f.widths) f.names bytes n held (omega (arith, many)) (omega (arith, many)) (omega (arith, count n many, fit.few))) ∙ said n many
+        row_is f bytes n (head-good f.tag (total f.widths) f.names bytes n held (omega (arith, many)) (omega (arith, many)) (omega (arith, count n many, fit.few))) ∙ ap (λ (r : Found Cells). Some r) (said n many)
 
 -- ---- a row in its places
 
@@ -295,19 +255,19 @@ filled_row tag x y out o ys zs w long room p q r now at =
     ∙ append_assoc head x y ∙ ap (λ (k : ℕ). tag ∷ (be 2 k ++ (x ++ y))) whole
 
 -- bytes that do not begin with the tag
-pub row_other : (f : Format) (bs : List ℕ) → (get_or bs 0 0 ≡ f.tag → ⊥) → row_at f bs ≡ absent
+pub row_other : (f : Format) (bs : List ℕ) → (get_or bs 0 0 ≡ f.tag → ⊥) → row_at f bs ≡ None
 row_other f bs h = row_bad f bs (head_bad f.tag (total f.widths) f.names bs (head-other f.tag bs h))
 
 -- ---- a row that was found
 
 -- what a row that was read says of the bytes
-pub record Back (f : Format) (bs : List ℕ) (r : Row Cells) : Type 0 where
+pub record Back (f : Format) (bs : List ℕ) (r : Found Cells) : Type 0 where
   pub room : r.size ≤ length bs
   pub bytes : take r.size bs ≡ row_of f r.value
   pub fit : fits f.widths r.value.numbers ≡ true
   pub names : Below (2 ^ 64) r.value.names
 
-pub row_back : (f : Format) (bs : List ℕ) → narrow f.widths ≡ true → Below 256 bs → (row_at f bs).found ≡ true → Back f bs (row_at f bs)
+pub row_back : (f : Format) (bs : List ℕ) → narrow f.widths ≡ true → Below 256 bs → (r : Found Cells) → row_at f bs ≡ Some r → Back f bs r
 row_back f bs t h = row-found f bs (λ r. Back f bs r) there
   where
     there : (n : ℕ) → Formed f.tag (total f.widths) f.names bs n → Back f bs (present f bs n)
@@ -327,13 +287,13 @@ row_back f bs t h = row-found f bs (λ r. Back f bs r) there
         }
 
 -- how many numbers and names a row that was read has, its bytes, and where its names stand
-pub record Sized (f : Format) (bs : List ℕ) (r : Row Cells) : Type 0 where
+pub record Sized (f : Format) (bs : List ℕ) (r : Found Cells) : Type 0 where
   pub size : r.size ≡ 3 + (total f.widths + 8 * length r.value.names)
   pub few : length r.value.names ≤ f.names
   pub columns : length r.value.numbers ≡ length f.widths
   pub names : words_of (length r.value.names) (drop (3 + total f.widths) bs) ≡ r.value.names
 
-pub row_sized : (f : Format) (bs : List ℕ) → (row_at f bs).found ≡ true → Sized f bs (row_at f bs)
+pub row_sized : (f : Format) (bs : List ℕ) → (r : Found Cells) → row_at f bs ≡ Some r → Sized f bs r
 row_sized f bs = row-found f bs (λ r. Sized f bs r) there
   where
     there : (n : ℕ) → Formed f.tag (total f.widths) f.names bs n → Sized f bs (present f bs n)
@@ -346,10 +306,6 @@ row_sized f bs = row-found f bs (λ r. Sized f bs r) there
           columns = length-numbers f.widths (drop 3 bs);
           names = ap (λ (j : ℕ). words_of j (drop (3 + w) bs)) k;
         }
-
--- whatever is found is there
-pub row_room : (f : Format) (bs : List ℕ) → (row_at f bs).size ≤ length bs
-row_room f bs = row_any f bs (λ r. r.size ≤ length bs) (λ n g. g.room) (omega arith)
 
 -- a row without names
 pub no_names : (l : List ℕ) → length l ≤ 0 → [] ≡ l

@@ -1,6 +1,6 @@
 -- Laws of a place's row: that it is there, that it is read as it was written, and written as it was read. Assumes nothing.
-use mathlib.Core.Path.{◌≡◌, refl, sym, ap, ap₂, ◌∙◌}
-use mathlib.Core.Bool.{Bool, true, false, not, cond, ◌&&◌, false≢true}
+use mathlib.Core.Path.{◌≡◌, refl, sym, ap, ap₂, ◌∙◌, subst}
+use mathlib.Core.Bool.{Bool, true, false, not, cond}
 use mathlib.Core.List.Memᴰ
 use mathlib.Core.List.{List, [], ◌∷◌, ◌++◌, append_assoc, map, head-eq_of_cons-eq, tail-eq_of_cons-eq}
 use Prim.Native.Nat.{ℕ, suc, ◌+◌, ◌^◌, ◌≤◌, ◌<◌}
@@ -10,6 +10,7 @@ use lib.Dec.{eqb, leb, ltb, lit<}
 use lib.ListN.{length, get_or, take, drop_of_length-le}
 use lib.Seq.{drop-cons}
 use borrow.Author.Tests.{eq-eqb, ne_eqb, eqb-true, eqb-false, leb-true, lt-ltb, ltb-true}
+use Rattle.std.specs.Prelude.{Option, None, Some, is_some, unwrap_or}
 use Rattle.fields.proofs.Bytes.{Below}
 use Rattle.rules.specs.declared.Role.{Role}
 use Rattle.rules.specs.declared.Role.TheVariants.{Writer, Compactor}
@@ -17,37 +18,24 @@ use Rattle.rules.specs.declared.Object.{Object}
 use Rattle.rules.specs.Lists.{◌∈◌, conj, all}
 use Rattle.rules.specs.State.{free, occupied}
 use Rattle.rules.proofs.Lists.{and_left, and_right, and_both, conj-true, true-conj}
-use Rattle.image.specs.declared.Spot.{Spot}
-use Rattle.image.specs.Rows.{Cells, Row, row_of, row_at, total, bytes_from}
+use Rattle.image.specs.declared.rows.Found.{Found}
+use Rattle.image.specs.Rows.{Cells, row_of, row_at, bytes_from}
 use Rattle.image.specs.Fit.{fits}
 use Rattle.image.specs.Form.{spot_bytes}
 use Rattle.records.specs.Format.{role_code}
 use Rattle.image.specs.Format.{object_row, flag, object_cells, is_object_at, object_from, object_size}
 use Rattle.image.specs.Image.{place_bytes}
-use Rattle.image.specs.Reading.{no_spot, spot_at, spot_size, place_at}
-use Rattle.image.proofs.RowLaws.{CellsFit, row_sized, row_room, row_there, row_other, row_back, fits-length, length-row, no_names}
+use Rattle.image.specs.Reading.{object_in, spot_at, spot_size, place_at}
+use Rattle.image.proofs.RowLaws.{CellsFit, row_sized, row_there, row_other, row_back, fits-length, no_names}
 use Rattle.image.proofs.Walks.{Each}
-use Rattle.image.proofs.Things.{spot_none, spot_other, spot_is}
+use Rattle.image.proofs.Lengths.{length-object}
+use Rattle.image.proofs.Things.{spot_none, spot_row, spot_cases}
 
 -- a row that has no names has the bytes of its columns
-pub object_size_lem : (bs : List ℕ) → (row_at object_row bs).found ≡ true → (row_at object_row bs).size ≡ object_size
-unfolding total
-object_size_lem bs e =
-    let s = row_sized object_row bs e in
+pub object_size_lem : (bs : List ℕ) (r : Found Cells) → row_at object_row bs ≡ Some r → r.size ≡ object_size
+object_size_lem bs r e =
+    let s = row_sized object_row bs r e in
     omega (arith, s.size, s.few)
-
-pub object_long : (p : ℕ) (o : Object) → length (row_of object_row (object_cells p o)) ≡ object_size
-unfolding total
-object_long p o = length-row object_row (object_cells p o) refl
-
-pub spot_room : (p : ℕ) (bs : List ℕ) → spot_size (spot_at p bs).taken ≤ length bs
-unfolding spot_at
-spot_room p bs = by (row_at object_row bs).found (is_object_at p (row_at object_row bs).value.numbers) refl
-  where
-    by : (b t : Bool) → (row_at object_row bs).found ≡ b → spot_size (cond (b && t) (record { taken = true; object = object_from (row_at object_row bs).value.numbers }) no_spot).taken ≤ length bs
-    by true true e = omega (arith, object_size_lem bs e, row_room object_row bs)
-    by true false e = omega arith
-    by false t e = omega arith
 
 -- ---- an object and the numbers of its row
 
@@ -84,7 +72,7 @@ flag-number n h = by (eqb n 0) refl
 
 module _ (p : ℕ) (o : Object) (h : p < 256) (fit : fits object_row.widths (object_cells 0 o).numbers ≡ true) where
   pub object_fit : CellsFit object_row (object_cells p o)
-  unfolding fits total all
+  unfolding fits all
   object_fit = record {
     narrow = refl;
     numbers = and_both (ltb p (256 ^ 1)) _ (lt-ltb p (256 ^ 1) h) (and_right (ltb 0 (256 ^ 1)) _ fit);
@@ -115,88 +103,63 @@ module _ (p : ℕ) (o : Object) (h : p < 256) (fit : fits object_row.widths (obj
   unfolding is_object_at
   object_is = true-conj _ (eq-eqb p p refl, (role_small o.role, (flag_small o.named, tt)))
 
-  -- its row at the front is read as the object at its place
-  pub spot_there : (rest : List ℕ) → spot_at p (row_of object_row (object_cells p o) ++ rest) ≡ record { taken = true; object = o }
-  spot_there rest =
-      let bs = row_of object_row (object_cells p o) ++ rest in
-      let e = row_there object_row (object_cells p o) rest object_fit in
-      let numbers = ap (λ (r : Row Cells). r.value.numbers) e in
-      spot_is p bs (ap (λ (r : Row Cells). r.found) e) (ap (is_object_at p) numbers ∙ object_is) ∙ (λ i. record { taken = true; object = (ap object_from numbers ∙ object-back) i })
+  module _ (rest : List ℕ) where
+    abbrev bytes : List ℕ
+    bytes = row_of object_row (object_cells p o) ++ rest
 
-  -- and as none at another place
-  pub spot_elsewhere : (q : ℕ) → (p ≡ q → ⊥) → (rest : List ℕ) → spot_at q (row_of object_row (object_cells p o) ++ rest) ≡ no_spot
-  unfolding is_object_at conj
-  spot_elsewhere q ne rest =
-      let bs = row_of object_row (object_cells p o) ++ rest in
-      let e = row_there object_row (object_cells p o) rest object_fit in
-      let numbers = ap (λ (r : Row Cells). r.value.numbers) e in
-      spot_other q bs (ap (is_object_at q) numbers ∙ rw (ne_eqb p q ne))
+    -- at any place its row says what it says
+    read : (q : ℕ) → spot_at q bytes ≡ object_in q (object_cells p o)
+    read q = spot_row q bytes _ (row_there object_row (object_cells p o) rest object_fit)
+
+    -- its row at the front is read as the object at its place
+    pub spot_there : spot_at p bytes ≡ Some o
+    spot_there = read p ∙ rw object_is (ap (λ (x : Object). Some x) object-back)
+
+    -- and as none at another place
+    pub spot_elsewhere : (q : ℕ) → (p ≡ q → ⊥) → spot_at q bytes ≡ None
+    unfolding is_object_at conj
+    spot_elsewhere q ne = read q ∙ rw (ne_eqb p q ne)
 
 -- ---- the places as spots
 
--- their bytes are those of the places, where a spot is taken exactly when its object is there
-pub spots-bytes : (p : ℕ) (ss : List Spot) → map (λ s. s.taken) ss ≡ map occupied (map (λ s. s.object) ss)
-    → bytes_from spot_bytes p ss ≡ bytes_from place_bytes p (map (λ s. s.object) ss)
+-- their bytes are those of the places, where one is taken exactly when its object is there
+pub spots-bytes : (p : ℕ) (ss : List (Option Object)) → map is_some ss ≡ map occupied (map (λ s. unwrap_or s free) ss)
+    → bytes_from spot_bytes p ss ≡ bytes_from place_bytes p (map (λ s. unwrap_or s free) ss)
 unfolding bytes_from place_bytes
 spots-bytes p [] e = refl
-spots-bytes p (s ∷ ss) e =
-    ap₂ (λ (b : Bool) (l : List ℕ). cond b (row_of object_row (object_cells p s.object)) [] ++ l) (head-eq_of_cons-eq e) (spots-bytes (suc p) ss (tail-eq_of_cons-eq e))
+spots-bytes p (None ∷ ss) e = spots-bytes (suc p) ss (tail-eq_of_cons-eq e)
+spots-bytes p (Some o ∷ ss) e =
+    ap₂ (λ (b : Bool) (l : List ℕ). cond b (row_of object_row (object_cells p o)) [] ++ l) (head-eq_of_cons-eq e) (spots-bytes (suc p) ss (tail-eq_of_cons-eq e))
 
 -- ---- reading what was written
 
--- a spot is free and all zero, or its numbers fit
-pub record SpotFit (s : Spot) : Type 0 where
-  pub clear : s.taken ≡ false → s.object ≡ free
-  pub fit : fits object_row.widths (object_cells 0 s.object).numbers ≡ true
-
-abbrev pub AllFit : List Spot → Type 0
-AllFit ss = (s : Spot) → s ∈ ss → SpotFit s
+-- the numbers of each object fit
+abbrev pub AllFit : List (Option Object) → Type 0
+AllFit ss = (o : Object) → Some o ∈ ss → fits object_row.widths (object_cells 0 o).numbers ≡ true
 
 -- before the rows of later places there is none of this one
-absent-before : (p q : ℕ) (ss : List Spot) (r : List ℕ) → p < q → q + length ss ≤ 256 → AllFit ss → (get_or r 0 0 ≡ 0x64 → ⊥)
-    → spot_at p (bytes_from spot_bytes q ss ++ r) ≡ no_spot
+absent-before : (p q : ℕ) (ss : List (Option Object)) (r : List ℕ) → p < q → q + length ss ≤ 256 → AllFit ss → (get_or r 0 0 ≡ 0x64 → ⊥)
+    → spot_at p (bytes_from spot_bytes q ss ++ r) ≡ None
 unfolding bytes_from
-absent-before p q [] r h room fit other = spot_none p r (ap (λ (x : Row Cells). x.found) (row_other object_row r other))
-absent-before p q (s ∷ ss) r h room fit other =
-    by (absent-before p (suc q) ss r (omega (arith, h)) (omega (arith, room)) (λ x i. fit x (Memᴰ.tail i)) other) s.taken
-  where
-    o : Object
-    o = s.object
+absent-before p q [] r h room fit other = spot_none p r (row_other object_row r other)
+absent-before p q (None ∷ ss) r h room fit other = absent-before p (suc q) ss r (omega (arith, h)) (omega (arith, room)) (λ o i. fit o (Memᴰ.tail i)) other
+absent-before p q (Some o ∷ ss) r h room fit other =
+    let rest = bytes_from spot_bytes (suc q) ss in
+    ap (spot_at p) (append_assoc (row_of object_row (object_cells q o)) rest r)
+    ∙ spot_elsewhere q o (omega (arith, room)) (fit o (Memᴰ.head refl)) (rest ++ r) p (λ z. omega (arith, z, h))
 
-    rest : List ℕ
-    rest = bytes_from spot_bytes (suc q) ss
-
-    by : spot_at p (rest ++ r) ≡ no_spot → (b : Bool) → spot_at p ((cond b (row_of object_row (object_cells q o)) [] ++ rest) ++ r) ≡ no_spot
-    by next true =
-        ap (spot_at p) (append_assoc (row_of object_row (object_cells q o)) rest r)
-        ∙ spot_elsewhere q o (omega (arith, room)) (fit s (Memᴰ.head refl)).fit p (λ z. omega (arith, z, h)) (rest ++ r)
-    by next false = next
-
-pub places-each : (p : ℕ) (ss : List Spot) (r : List ℕ) → p + length ss ≤ 256 → AllFit ss → (get_or r 0 0 ≡ 0x64 → ⊥) → Each spot_bytes place_at p ss r
+pub places-each : (p : ℕ) (ss : List (Option Object)) (r : List ℕ) → p + length ss ≤ 256 → AllFit ss → (get_or r 0 0 ≡ 0x64 → ⊥) → Each spot_bytes place_at p ss r
 unfolding Each bytes_from
 places-each p [] r room fit other = tt
-places-each p (s ∷ ss) r room fit other =
-    (by s.taken refl, places-each (suc p) ss r (omega (arith, room)) (λ x i. fit x (Memᴰ.tail i)) other)
-  where
-    o : Object
-    o = s.object
-
-    rest : List ℕ
-    rest = bytes_from spot_bytes (suc p) ss
-
-    full : List ℕ → Row Spot
-    full l = record { found = true; size = length l; value = s }
-
-    none : spot_at p (rest ++ r) ≡ no_spot
-    none = absent-before p (suc p) ss r (omega arith) (omega (arith, room)) (λ x i. fit x (Memᴰ.tail i)) other
-
-    by : (b : Bool) → s.taken ≡ b → place_at p (cond b (row_of object_row (object_cells p o)) [] ++ (rest ++ r)) ≡ full (cond b (row_of object_row (object_cells p o)) [])
-    by true e =
-        let there = spot_there p o (omega (arith, room)) (fit s (Memᴰ.head refl)).fit (rest ++ r) in
-        let long : object_size ≡ length (row_of object_row (object_cells p o)) = sym (object_long p o) in
-        (λ i. record { found = true; size = spot_size (there i).taken; value = there i }) ∙ (λ i. record { found = true; size = long i; value = record { taken = sym e i; object = o } })
-    by false e =
-        λ i. record { found = true; size = spot_size (none i).taken; value = (none ∙ (λ j. record { taken = sym e j; object = sym ((fit s (Memᴰ.head refl)).clear e) j })) i }
+places-each p (None ∷ ss) r room fit other =
+    let none = absent-before p (suc p) ss r (omega arith) (omega (arith, room)) (λ o i. fit o (Memᴰ.tail i)) other in
+    ((λ i. Some (record { value = none i; size = spot_size (is_some (none i)) })), places-each (suc p) ss r (omega (arith, room)) (λ o i. fit o (Memᴰ.tail i)) other)
+places-each p (Some o ∷ ss) r room fit other =
+    let there = spot_there p o (omega (arith, room)) (fit o (Memᴰ.head refl)) (bytes_from spot_bytes (suc p) ss ++ r) in
+    let long : object_size ≡ length (row_of object_row (object_cells p o)) = sym (length-object p o) in (
+      (λ i. Some (record { value = there i; size = spot_size (is_some (there i)) })) ∙ (λ i. Some (record { value = Some o; size = long i })),
+      places-each (suc p) ss r (omega (arith, room)) (λ x i. fit x (Memᴰ.tail i)) other,
+    )
 
 -- ---- writing what was read
 
@@ -227,43 +190,25 @@ cells-back p v fit is =
     let currency = mod-eq_of_lt {n = get_or v 4 0} {m = 65536} (fifth v fit) in
     (λ i. place i ∷ get_or v 1 0 ∷ role i ∷ get_or v 3 0 ∷ currency i ∷ named i ∷ []) ∙ sym (six v (sym (fits-length object_row.widths v fit)))
 
-pub spot_back : (p : ℕ) (bs : List ℕ) → Below 256 bs → (take (spot_size (spot_at p bs).taken) bs ≡ spot_bytes p (spot_at p bs)) × (spot_size (spot_at p bs).taken ≤ length bs)
-unfolding spot_at all
-spot_back p bs h = by (row_at object_row bs).found (is_object_at p (row_at object_row bs).value.numbers) refl refl
-  where
-    row : Row Cells
-    row = row_at object_row bs
-
-    yes : Spot
-    yes = record { taken = true; object = object_from (row_at object_row bs).value.numbers }
-
-    by : (b t : Bool) → (row_at object_row bs).found ≡ b → is_object_at p (row_at object_row bs).value.numbers ≡ t
-        → (take (spot_size (cond (b && t) yes no_spot).taken) bs ≡ spot_bytes p (cond (b && t) yes no_spot)) × (spot_size (cond (b && t) yes no_spot).taken ≤ length bs)
-    by true true e is =
-        let back = row_back object_row bs refl h e in
-        let size = object_size_lem bs e in
-        let s = row_sized object_row bs e in
-        let same : row_of object_row (row_at object_row bs).value ≡ row_of object_row (object_cells p (object_from (row_at object_row bs).value.numbers)) =
-        λ i. row_of object_row (record { numbers = sym (cells-back p (row_at object_row bs).value.numbers back.fit is) i; names = sym (no_names (row_at object_row bs).value.names s.few) i }) in
-        (ap (λ (n : ℕ). take n bs) (sym size) ∙ back.bytes ∙ same, omega (arith, size, back.room))
-    by true false e is = (refl, omega arith)
-    by false t e is = (refl, omega arith)
+pub spot_back : (p : ℕ) (bs : List ℕ) → Below 256 bs → (take (spot_size (is_some (spot_at p bs))) bs ≡ spot_bytes p (spot_at p bs)) × (spot_size (is_some (spot_at p bs)) ≤ length bs)
+unfolding all
+spot_back p bs h =
+    spot_cases p bs (λ o. (take (spot_size (is_some o)) bs ≡ spot_bytes p o) × (spot_size (is_some o) ≤ length bs)) (refl, omega arith)
+    (λ r e is.
+    let back = row_back object_row bs refl h r e in
+    let size = object_size_lem bs r e in
+    let s = row_sized object_row bs r e in
+    let same : row_of object_row r.value ≡ row_of object_row (object_cells p (object_from r.value.numbers)) =
+    λ i. row_of object_row (record { numbers = sym (cells-back p r.value.numbers back.fit is) i; names = sym (no_names r.value.names s.few) i }) in
+    (ap (λ (n : ℕ). take n bs) (sym size) ∙ back.bytes ∙ same, omega (arith, size, back.room)))
 
 -- what was read fits
-pub spot_fits : (p : ℕ) (bs : List ℕ) → Below 256 bs → SpotFit (spot_at p bs)
-unfolding spot_at all fits
-spot_fits p bs h = by (row_at object_row bs).found (is_object_at p (row_at object_row bs).value.numbers) refl refl
-  where
-    v : List ℕ
-    v = (row_at object_row bs).value.numbers
-
-    yes : Spot
-    yes = record { taken = true; object = object_from v }
-
-    by : (b t : Bool) → (row_at object_row bs).found ≡ b → is_object_at p v ≡ t → SpotFit (cond (b && t) yes no_spot)
-    by true true e is =
-        let back = row_back object_row bs refl h e in
-        let all_fit : fits object_row.widths (object_cells p (object_from v)).numbers ≡ true = ap (fits object_row.widths) (cells-back p v back.fit is) ∙ back.fit in
-        record { clear = λ z. absurd (false≢true (sym z)); fit = and_both (ltb 0 (256 ^ 1)) _ refl (and_right (ltb p (256 ^ 1)) _ all_fit) }
-    by true false e is = record { clear = λ z. refl; fit = refl }
-    by false t e is = record { clear = λ z. refl; fit = refl }
+pub spot_fits : (p : ℕ) (bs : List ℕ) → Below 256 bs → (o : Object) → spot_at p bs ≡ Some o → fits object_row.widths (object_cells 0 o).numbers ≡ true
+unfolding all fits
+spot_fits p bs h =
+    spot_cases p bs (λ s. (o : Object) → s ≡ Some o → fits object_row.widths (object_cells 0 o).numbers ≡ true) (λ o e. cc)
+    (λ r e is o same.
+    let back = row_back object_row bs refl h r e in
+    let object : object_from r.value.numbers ≡ o = cc in
+    let all_fit : fits object_row.widths (object_cells p (object_from r.value.numbers)).numbers ≡ true = ap (fits object_row.widths) (cells-back p r.value.numbers back.fit is) ∙ back.fit in
+    subst (λ x. fits object_row.widths (object_cells 0 x).numbers ≡ true) object (and_both (ltb 0 (256 ^ 1)) _ refl (and_right (ltb p (256 ^ 1)) _ all_fit)))

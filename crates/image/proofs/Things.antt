@@ -1,39 +1,57 @@
--- The rows of an object, a manifest and a hold: what the code's places say of them. Assumes nothing.
-use mathlib.Core.Path.{◌≡◌, sym, ap, ◌∙◌}
-use mathlib.Core.Bool.{Bool, true, false, not, cond, and-false}
+-- What stands at the front of bytes as an option, the places of an object, and bytes that were laid. Assumes nothing.
+use mathlib.Core.Path.{◌≡◌, refl, sym, ap, ◌∙◌}
+use mathlib.Core.Bool.{Bool, true, false, not, cond}
 use mathlib.Core.List.{List, [], ◌++◌}
 use Prim.Native.Nat.{ℕ}
-use lib.ListN.{length, get_or, drop}
+use lib.ListN.{length, drop}
 use borrow.Author.Tests.{eq-eqb, ne_eqb}
+use Rattle.std.specs.Prelude.{Option, None, Some, is_some}
+use Rattle.std.specs.Option.{option_map}
 use Rattle.fields.specs.Fields.{over}
 use Rattle.rules.specs.declared.Object.{Object}
-use Rattle.rules.specs.Limits.{limits}
 use Rattle.rules.specs.State.{occupied}
-use Rattle.arrays.specs.Arrays.{pad}
-use Rattle.arrays.proofs.Lists.{get_d_pad}
-use Rattle.image.specs.declared.Line.{Line}
-use Rattle.image.specs.declared.HoldFound.{HoldFound}
-use Rattle.image.specs.Rows.{Cells, Row, row_of, row_at}
-use Rattle.image.specs.Format.{object_row, object_cells, is_object_at, object_from, manifest_from, hold_from}
+use Rattle.image.specs.declared.rows.Found.{Found}
+use Rattle.image.specs.Rows.{Cells, row_of, row_at}
+use Rattle.image.specs.Format.{object_row, object_cells, is_object_at, object_from}
 use Rattle.image.specs.Image.{place_bytes}
-use Rattle.image.specs.Reading.{no_spot, spot_at}
-use Rattle.image.specs.Code.{most_columns, line, made_manifest, found_manifest, found_hold, Put}
+use Rattle.image.specs.Reading.{object_in, spot_at}
+use Rattle.image.specs.Code.{Put}
+
+-- ---- options
+
+pub some_of : {A : Type 0} (o : Option A) → is_some o ≡ true → (x : A) × (o ≡ Some x)
+some_of None e = cc
+some_of (Some x) e = (x, refl)
+
+-- where a value was made of another, that one is there
+pub map-some : {A B : Type 0} (f : A → B) (o : Option A) {y : B} → option_map f o ≡ Some y → (x : A) × (o ≡ Some x) × (f x ≡ y)
+map-some f None e = cc
+map-some f (Some x) e = (x, refl, cc)
 
 -- ---- a place
 
 module _ (p : ℕ) (bs : List ℕ) where
-  pub spot_none : (row_at object_row bs).found ≡ false → spot_at p bs ≡ no_spot
+  pub spot_none : row_at object_row bs ≡ None → spot_at p bs ≡ None
   unfolding spot_at
   spot_none e = rw e
 
-  pub spot_other : is_object_at p (row_at object_row bs).value.numbers ≡ false → spot_at p bs ≡ no_spot
+  pub spot_row : (r : Found Cells) → row_at object_row bs ≡ Some r → spot_at p bs ≡ object_in p r.value
   unfolding spot_at
-  spot_other e = rw (e, and-false (row_at object_row bs).found)
+  spot_row r e = rw e
 
-  pub spot_is : (row_at object_row bs).found ≡ true → is_object_at p (row_at object_row bs).value.numbers ≡ true
-      → spot_at p bs ≡ record { taken = true; object = object_from (row_at object_row bs).value.numbers }
+  -- what holds of none, and of the object of a row that says this place, holds of what stands there
+  pub spot_cases : (P : Option Object → Type 0) → P None
+      → ((r : Found Cells) → row_at object_row bs ≡ Some r → is_object_at p r.value.numbers ≡ true → P (Some (object_from r.value.numbers))) → P (spot_at p bs)
   unfolding spot_at
-  spot_is e g = rw (e, g)
+  spot_cases P none there = by (row_at object_row bs) refl
+    where
+      by : (o : Option (Found Cells)) → row_at object_row bs ≡ o → P (Rattle.std.specs.Option.option_and_then (λ r. object_in p r.value) o)
+      by None e = none
+      by (Some r) e = step (is_object_at p r.value.numbers) refl
+        where
+          step : (t : Bool) → is_object_at p r.value.numbers ≡ t → P (cond t (Some (object_from r.value.numbers)) None)
+          step true q = there r e q
+          step false q = none
 
 module _ (p : ℕ) (o : Object) where
   pub place-free : o.number ≡ 0 → place_bytes p o ≡ []
@@ -46,44 +64,3 @@ module _ (p : ℕ) (o : Object) where
   pub place-row : occupied o ≡ true → place_bytes p o ≡ row_of object_row (object_cells p o)
   unfolding place_bytes
   place-row e = ap (λ (b : Bool). cond b (row_of object_row (object_cells p o)) []) e
-
--- the first number of a row in its places
-pub line-number : (l : Line) (r : Row Cells) → l ≡ line r → get_or l.numbers 0 0 ≡ get_or r.value.numbers 0 0
-line-number l r e = ap (λ (m : Line). get_or m.numbers 0 0) e ∙ get_d_pad most_columns 0 r.value.numbers 0
-
--- ---- a manifest and a hold
-
-pub manifest-line : (r : Row Cells) → made_manifest (line r) (pad limits.names 0 r.value.names) ≡ found_manifest (record { found = r.found; size = r.size; value = manifest_from r.value })
-manifest-line r =
-    let v = r.value.numbers in
-    λ i. record {
-      found = r.found;
-      size = r.size;
-      manifest = record {
-        number = get_d_pad most_columns 0 v 0 i;
-        writer = get_d_pad most_columns 0 v 1 i;
-        compactor = get_d_pad most_columns 0 v 2 i;
-        count = length r.value.names;
-        names = pad limits.names 0 r.value.names;
-      };
-    }
-
-abbrev pub made_hold : Line → HoldFound
-made_hold l = record { found = l.found; size = l.size; hold = record { number = get_or l.numbers 0 0; manifest = get_or l.numbers 1 0; expiry = get_or l.numbers 2 0 } }
-
-pub hold-line : (r : Row Cells) → made_hold (line r) ≡ found_hold (record { found = r.found; size = r.size; value = hold_from r.value.numbers })
-hold-line r =
-    let v = r.value.numbers in
-    λ i. record {
-      found = r.found;
-      size = r.size;
-      hold = record { number = get_d_pad most_columns 0 v 0 i; manifest = get_d_pad most_columns 0 v 1 i; expiry = get_d_pad most_columns 0 v 2 i };
-    }
-
--- ---- bytes that were laid
-
-pub put-none : (bytes out : List ℕ) → bytes ≡ [] → Put bytes out out 0
-put-none bytes out e = record { count = sym (ap length e); laid = sym (ap (λ (b : List ℕ). over b out) e) }
-
-pub put-part : (bytes out ys : List ℕ) (k : ℕ) → ys ≡ bytes → length bytes ≡ k → Put bytes out (ys ++ drop k out) k
-put-part bytes out ys k e h = record { count = sym h; laid = ap (λ (b : List ℕ). b ++ drop k out) e ∙ ap (λ (j : ℕ). bytes ++ drop j out) (sym h) }

@@ -9,13 +9,14 @@ use lib.Dec.{leb, ltb, eqb, lit<}
 use lib.ListN.{length, get_or, take, drop, length-drop, length-map, take-append-drop, drop_of_length-le}
 use lib.Seq.{drop-cons, drop-drop, take-add, take_all}
 use borrow.Author.Tests.{leb-true, eqb-true, ltb-true}
+use Rattle.std.specs.Prelude.{Option, None, Some, is_some, unwrap_or, Result, Ok, Err}
 use Rattle.fields.specs.Fields.{field, claimed}
 use Rattle.fields.proofs.Bytes.{Below, below-drop}
 use Rattle.rules.specs.declared.Object.{Object}
 use Rattle.rules.specs.declared.Hold.{Hold}
 use Rattle.rules.specs.Lists.{◌∈◌, all}
 use Rattle.rules.specs.Limits.{limits, manifest_limit, word_bits, word_count}
-use Rattle.rules.specs.State.{Manifest, State, occupied}
+use Rattle.rules.specs.State.{Manifest, State, free, occupied}
 use Rattle.rules.specs.Sound.{sound}
 use Rattle.rules.proofs.Lists.{AllTrue, and_left, and_right, and_both, conj-true}
 use Rattle.objects.specs.Occupancy.{words_of, flags_of}
@@ -30,20 +31,21 @@ use Rattle.ledger.specs.declared.Ledger.{Ledger}
 use Rattle.ledger.specs.Ledger.{lay, view, is_sound}
 use Rattle.ledger.proofs.View.{Laid, sound_parts, sound-view}
 use Rattle.ledger.proofs.SoundLaw.{view-lay}
-use Rattle.image.specs.declared.Spot.{Spot}
-use Rattle.image.specs.declared.Reading.TheVariants.{Read, Unsound, Malformed}
-use Rattle.image.specs.declared.ImageRead.{ImageRead}
-use Rattle.image.specs.Rows.{Format, row_of, row_at, bytes_from}
-use Rattle.image.specs.Format.{edition_row, clock_row, collected_row, edition, single, object_row, object_cells, manifest_row, manifest_cells, hold_row, hold_cells}
+use Rattle.image.specs.declared.LoadError.{LoadError}
+use Rattle.image.specs.declared.LoadError.TheVariants.{Unsound, Malformed}
+use Rattle.image.specs.declared.rows.Found.{Found}
+use Rattle.image.specs.Rows.{Format, Cells, row_of, row_at, bytes_from, found_as}
+use Rattle.image.specs.Format.{edition_row, clock_row, collected_row, edition, single, object_row, object_cells, manifest_row, manifest_cells, manifest_from, hold_row, hold_cells, hold_from}
 use Rattle.image.specs.Image.{image_tag, head_bytes, manifest_bytes, hold_bytes, content_of, image_of}
-use Rattle.image.specs.Reading.{place_at, manifest_at, hold_at, places_of, kept_of, holds_of, clock_at, collected_at, rows_begin, is_headed, kept_begin, holds_begin, rows_end, ledger_in, is_image, refused, read_of, read_code}
+use Rattle.image.specs.Reading.{number_at, spot_at, spot_size, place_at, manifest_at, hold_at, places_of, kept_of, holds_of, clock_at, collected_at, rows_begin, is_headed, kept_begin, holds_begin, rows_end, ledger_in, is_image, read_of}
 use Rattle.image.specs.Fit.{fits}
 use Rattle.image.specs.RoundTrip.{Fits}
 use Rattle.image.specs.Form.{Said, spot_bytes, content as content_said, bytes_of, InForm}
 use Rattle.image.proofs.RowLaws.{row_back, row_sized, no_names}
 use Rattle.image.proofs.Walks.{rows_back, rows_few, rows-each, rows_all}
-use Rattle.image.proofs.Spots.{SpotFit, spots-bytes, spot_back, spot_fits}
+use Rattle.image.proofs.Spots.{spots-bytes, spot_back, spot_fits}
 use Rattle.image.proofs.Heads.{single-size, refused-by}
+use Rattle.image.proofs.Things.{some_of, map-some}
 
 -- ---- the numbers of a row
 
@@ -55,31 +57,49 @@ three v e =
     sym (drop-cons v 0 0 (omega arith) ∙ ap (λ l. get_or v 0 0 ∷ l) (drop-cons v 1 0 (omega arith) ∙ ap (λ l. get_or v 1 0 ∷ l) (drop-cons v 2 0 (omega arith)
     ∙ ap (λ l. get_or v 2 0 ∷ l) (drop_of_length-le v {i = 3} (omega arith)))))
 
--- a row of one number is that of its number
-single-back : (tag w : ℕ) (bs : List ℕ) → leb w 8 ≡ true → Below 256 bs → (row_at (record { tag = tag; widths = w ∷ []; names = 0 }) bs).found ≡ true
-    → take (3 + w) bs ≡ row_of (record { tag = tag; widths = w ∷ []; names = 0 }) (single (get_or (row_at (record { tag = tag; widths = w ∷ []; names = 0 }) bs).value.numbers 0 0))
-unfolding all
-single-back tag w bs short h e =
-    let f : Format = record { tag = tag; widths = w ∷ []; names = 0 } in
-    let back = row_back f bs (and_both (leb w 8) true short refl) h e in
-    let s = row_sized f bs e in
-    ap (λ (n : ℕ). take n bs) (sym (single-size tag w bs e)) ∙ back.bytes
-    ∙ (λ i. row_of f (record { numbers = sym (one (row_at f bs).value.numbers s.columns) i; names = sym (no_names (row_at f bs).value.names s.few) i }))
+-- a row of one number is that of its number, which fits
+module _ (tag w : ℕ) (bs : List ℕ) (short : leb w 8 ≡ true) (h : Below 256 bs) (n : ℕ) (e : number_at (record { tag = tag; widths = w ∷ []; names = 0 }) bs ≡ Some n) where
+  abbrev form : Format
+  form = record { tag = tag; widths = w ∷ []; names = 0 }
 
-manifest-back : (p : ℕ) (bs : List ℕ) → Below 256 bs → (manifest_at p bs).found ≡ true
-    → (take (manifest_at p bs).size bs ≡ manifest_bytes p (manifest_at p bs).value) × ((manifest_at p bs).size ≤ length bs)
+  read : (r : Found Cells) × (row_at form bs ≡ Some r) × (get_or r.value.numbers 0 0 ≡ n)
+  read = map-some (λ (r : Found Cells). get_or r.value.numbers 0 0) (row_at form bs) e
+
+  numbers : read.0.value.numbers ≡ n ∷ []
+  numbers = sym (one read.0.value.numbers (row_sized form bs read.0 read.1).columns) ∙ ap (λ k. k ∷ []) read.2
+
+  single-back : take (3 + w) bs ≡ row_of form (single n)
+  unfolding all
+  single-back =
+      let back = row_back form bs (and_both (leb w 8) true short refl) h read.0 read.1 in
+      let s = row_sized form bs read.0 read.1 in
+      ap (λ (k : ℕ). take k bs) (sym (single-size tag w bs read.0 read.1)) ∙ back.bytes
+      ∙ (λ i. row_of form (record { numbers = numbers i; names = sym (no_names read.0.value.names s.few) i }))
+
+  single-fits : n < 256 ^ w
+  unfolding all fits
+  single-fits =
+      let back = row_back form bs (and_both (leb w 8) true short refl) h read.0 read.1 in
+      let fit : fits (w ∷ []) (n ∷ []) ≡ true = ap (fits (w ∷ [])) (sym numbers) ∙ back.fit in
+      ltb-true n (256 ^ w) (and_left (ltb n (256 ^ w)) true fit)
+
+manifest-back : (p : ℕ) (bs : List ℕ) → Below 256 bs → (r : Found Manifest) → manifest_at p bs ≡ Some r → (take r.size bs ≡ manifest_bytes p r.value) × (r.size ≤ length bs)
 unfolding manifest_bytes all
-manifest-back p bs h e =
-    let back = row_back manifest_row bs refl h e in
-    let s = row_sized manifest_row bs e in
-    (back.bytes ∙ (λ i. row_of manifest_row (record { numbers = sym (three (row_at manifest_row bs).value.numbers s.columns) i; names = (row_at manifest_row bs).value.names })), back.room)
+manifest-back p bs h r e =
+    let x = map-some (found_as manifest_from) (row_at manifest_row bs) e in
+    let back = row_back manifest_row bs refl h x.0 x.1 in
+    let s = row_sized manifest_row bs x.0 x.1 in
+    subst (λ (r : Found Manifest). (take r.size bs ≡ manifest_bytes p r.value) × (r.size ≤ length bs)) x.2
+    (back.bytes ∙ (λ i. row_of manifest_row (record { numbers = sym (three x.0.value.numbers s.columns) i; names = x.0.value.names })), back.room)
 
-hold-back : (p : ℕ) (bs : List ℕ) → Below 256 bs → (hold_at p bs).found ≡ true → (take (hold_at p bs).size bs ≡ hold_bytes p (hold_at p bs).value) × ((hold_at p bs).size ≤ length bs)
+hold-back : (p : ℕ) (bs : List ℕ) → Below 256 bs → (r : Found Hold) → hold_at p bs ≡ Some r → (take r.size bs ≡ hold_bytes p r.value) × (r.size ≤ length bs)
 unfolding hold_bytes all
-hold-back p bs h e =
-    let back = row_back hold_row bs refl h e in
-    let s = row_sized hold_row bs e in
-    (back.bytes ∙ (λ i. row_of hold_row (record { numbers = sym (three (row_at hold_row bs).value.numbers s.columns) i; names = sym (no_names (row_at hold_row bs).value.names s.few) i })), back.room)
+hold-back p bs h r e =
+    let x = map-some (found_as (λ (c : Cells). hold_from c.numbers)) (row_at hold_row bs) e in
+    let back = row_back hold_row bs refl h x.0 x.1 in
+    let s = row_sized hold_row bs x.0 x.1 in
+    subst (λ (r : Found Hold). (take r.size bs ≡ hold_bytes p r.value) × (r.size ≤ length bs)) x.2
+    (back.bytes ∙ (λ i. row_of hold_row (record { numbers = sym (three x.0.value.numbers s.columns) i; names = sym (no_names x.0.value.names s.few) i })), back.room)
 
 -- ---- a list of manifests that is not empty has a last one
 
@@ -95,23 +115,12 @@ split-last (m ∷ ms) h = last_of m ms
 
 abbrev pub said_in : List ℕ → Said
 said_in cs = record {
-  clock = get_or (row_at clock_row (drop clock_at cs)).value.numbers 0 0;
-  collected = get_or (row_at collected_row (drop collected_at cs)).value.numbers 0 0;
+  clock = unwrap_or (number_at clock_row (drop clock_at cs)) 0;
+  collected = unwrap_or (number_at collected_row (drop collected_at cs)) 0;
   spots = (places_of (drop rows_begin cs)).values;
   manifests = (kept_of (drop (kept_begin cs) cs)).values;
   holds = (holds_of (drop (holds_begin cs) cs)).values;
 }
-
--- what a row of one number says fits
-single-fits : (tag w : ℕ) (bs : List ℕ) → leb w 8 ≡ true → Below 256 bs → (row_at (record { tag = tag; widths = w ∷ []; names = 0 }) bs).found ≡ true
-    → get_or (row_at (record { tag = tag; widths = w ∷ []; names = 0 }) bs).value.numbers 0 0 < 256 ^ w
-unfolding all fits
-single-fits tag w bs short h e =
-    let f : Format = record { tag = tag; widths = w ∷ []; names = 0 } in
-    let v = (row_at f bs).value.numbers in
-    let back = row_back f bs (and_both (leb w 8) true short refl) h e in
-    let fit : fits (w ∷ []) (get_or v 0 0 ∷ []) ≡ true = ap (fits (w ∷ [])) (one v (row_sized f bs e).columns) ∙ back.fit in
-    ltb-true (get_or v 0 0) (256 ^ w) (and_left (ltb (get_or v 0 0) (256 ^ w)) true fit)
 
 -- what a manifest's and a hold's row say fits
 record ManifestFit (m : Manifest) : Type 0 where
@@ -119,33 +128,53 @@ record ManifestFit (m : Manifest) : Type 0 where
   short : length m.names ≤ limits.names
   names : all (λ n. ltb n (2 ^ 64)) m.names ≡ true
 
-manifest-fits : (p : ℕ) (bs : List ℕ) → Below 256 bs → (manifest_at p bs).found ≡ true → ManifestFit (manifest_at p bs).value
+manifest-fits : (p : ℕ) (bs : List ℕ) → Below 256 bs → (r : Found Manifest) → manifest_at p bs ≡ Some r → ManifestFit r.value
 unfolding all
-manifest-fits p bs h e =
-    let back = row_back manifest_row bs refl h e in
-    let s = row_sized manifest_row bs e in
-    record { fit = ap (fits manifest_row.widths) (three (row_at manifest_row bs).value.numbers s.columns) ∙ back.fit; short = s.few; names = below_all (2 ^ 64) (row_at manifest_row bs).value.names back.names }
+manifest-fits p bs h r e =
+    let x = map-some (found_as manifest_from) (row_at manifest_row bs) e in
+    let back = row_back manifest_row bs refl h x.0 x.1 in
+    let s = row_sized manifest_row bs x.0 x.1 in
+    subst (λ (r : Found Manifest). ManifestFit r.value) x.2
+    (record { fit = ap (fits manifest_row.widths) (three x.0.value.numbers s.columns) ∙ back.fit; short = s.few; names = below_all (2 ^ 64) x.0.value.names back.names })
 
-hold-fits : (p : ℕ) (bs : List ℕ) → Below 256 bs → (hold_at p bs).found ≡ true → fits hold_row.widths (hold_cells (hold_at p bs).value).numbers ≡ true
+hold-fits : (p : ℕ) (bs : List ℕ) → Below 256 bs → (r : Found Hold) → hold_at p bs ≡ Some r → fits hold_row.widths (hold_cells r.value).numbers ≡ true
 unfolding all
-hold-fits p bs h e =
-    let back = row_back hold_row bs refl h e in
-    ap (fits hold_row.widths) (three (row_at hold_row bs).value.numbers (row_sized hold_row bs e).columns) ∙ back.fit
+hold-fits p bs h r e =
+    let x = map-some (found_as (λ (c : Cells). hold_from c.numbers)) (row_at hold_row bs) e in
+    let back = row_back hold_row bs refl h x.0 x.1 in
+    subst (λ (r : Found Hold). fits hold_row.widths (hold_cells r.value).numbers ≡ true) x.2
+    (ap (fits hold_row.widths) (three x.0.value.numbers (row_sized hold_row bs x.0 x.1).columns) ∙ back.fit)
+
+-- the object of a place that is gone through is the one that stands there
+place-fits : (p : ℕ) (bs : List ℕ) → Below 256 bs → (r : Found (Option Object)) → place_at p bs ≡ Some r → (o : Object) → r.value ≡ Some o → fits object_row.widths (object_cells 0 o).numbers ≡ true
+place-fits p bs h r e o at = let same : spot_at p bs ≡ Some o = (let value : r.value ≡ spot_at p bs = cc in sym value ∙ at) in spot_fits p bs h o same
+
+place-back : (p : ℕ) (bs : List ℕ) → Below 256 bs → (r : Found (Option Object)) → place_at p bs ≡ Some r → (take r.size bs ≡ spot_bytes p r.value) × (r.size ≤ length bs)
+place-back p bs h r e = let same : ◌≡◌ {A = Found (Option Object)} (record { value = spot_at p bs; size = spot_size (is_some (spot_at p bs)) }) r = cc in subst (λ (r : Found (Option Object)). (take r.size bs ≡ spot_bytes p r.value) × (r.size ≤ length bs)) same (spot_back p bs h)
 
 module _ (cs : List ℕ) (below : Below 256 cs) (headed : is_headed cs ≡ true) where
-  tests : AllTrue ((row_at edition_row cs).found ∷ eqb (get_or (row_at edition_row cs).value.numbers 0 0) edition ∷ (row_at clock_row (drop clock_at cs)).found ∷ (row_at collected_row (drop collected_at cs)).found ∷ [])
+  tests : AllTrue (is_some (number_at edition_row cs) ∷ eqb (unwrap_or (number_at edition_row cs) 0) edition ∷ is_some (number_at clock_row (drop clock_at cs)) ∷ is_some (number_at collected_row (drop collected_at cs)) ∷ [])
   tests = conj-true _ headed
+
+  -- the three numbers
+  edition_read : number_at edition_row cs ≡ Some edition
+  edition_read = let n = some_of (number_at edition_row cs) tests.0 in n.1 ∙ ap (λ k. Some k) (sym (ap (λ o. unwrap_or o 0) n.1) ∙ eqb-true (unwrap_or (number_at edition_row cs) 0) edition tests.1.0)
+
+  clock_read : number_at clock_row (drop clock_at cs) ≡ Some (said_in cs).clock
+  clock_read = let n = some_of (number_at clock_row (drop clock_at cs)) tests.1.1.0 in n.1 ∙ ap (λ k. Some k) (sym (ap (λ o. unwrap_or o 0) n.1))
+
+  collected_read : number_at collected_row (drop collected_at cs) ≡ Some (said_in cs).collected
+  collected_read = let n = some_of (number_at collected_row (drop collected_at cs)) tests.1.1.1.0 in n.1 ∙ ap (λ k. Some k) (sym (ap (λ o. unwrap_or o 0) n.1))
 
   pub said_in-form : InForm (said_in cs)
   said_in-form =
-      let spots = rows-each place_at SpotFit (λ p bs h e. spot_fits p bs h) limits.places 0 (drop rows_begin cs) (below-drop 256 rows_begin cs below) in
+      let spots = rows-each place_at (λ (s : Option Object). (o : Object) → s ≡ Some o → fits object_row.widths (object_cells 0 o).numbers ≡ true) place-fits limits.places 0 (drop rows_begin cs) (below-drop 256 rows_begin cs below) in
       let kept-fit = rows-each manifest_at ManifestFit manifest-fits (manifest_limit limits) 0 (drop (kept_begin cs) cs) (below-drop 256 (kept_begin cs) cs below) in
       record {
-        clock = single-fits 0x62 8 (drop clock_at cs) refl (below-drop 256 clock_at cs below) tests.1.1.0;
-        collected = single-fits 0x63 8 (drop collected_at cs) refl (below-drop 256 collected_at cs below) tests.1.1.1.0;
+        clock = single-fits 0x62 8 (drop clock_at cs) refl (below-drop 256 clock_at cs below) (said_in cs).clock clock_read;
+        collected = single-fits 0x63 8 (drop collected_at cs) refl (below-drop 256 collected_at cs below) (said_in cs).collected collected_read;
         places = rows_all place_at (λ q bs. refl) limits.places 0 (drop rows_begin cs);
-        clear = λ x i. (spots x i).clear;
-        objects = λ x i. (spots x i).fit;
+        objects = λ o i. spots (Some o) i o refl;
         keeps = rows_few manifest_at (manifest_limit limits) 0 (drop (kept_begin cs) cs);
         manifests = λ m i. (kept-fit m i).fit;
         short = λ m i. (kept-fit m i).short;
@@ -154,18 +183,16 @@ module _ (cs : List ℕ) (below : Below 256 cs) (headed : is_headed cs ≡ true)
         holds = rows-each hold_at (λ x. fits hold_row.widths (hold_cells x).numbers ≡ true) hold-fits limits.holds 0 (drop (holds_begin cs) cs) (below-drop 256 (holds_begin cs) cs below);
       }
 
-  first : take 4 cs ≡ row_of edition_row (single edition)
-  first = single-back 0x61 1 cs refl below tests.0 ∙ ap (λ (n : ℕ). row_of edition_row (single n)) (eqb-true (get_or (row_at edition_row cs).value.numbers 0 0) edition tests.1.0)
-
   head-back : take 26 cs ≡ head_bytes (said_in cs).clock (said_in cs).collected
   head-back =
-      let second = single-back 0x62 8 (drop 4 cs) refl (below-drop 256 4 cs below) tests.1.1.0 in
-      let third = single-back 0x63 8 (drop 15 cs) refl (below-drop 256 15 cs below) tests.1.1.1.0 in
+      let first = single-back 0x61 1 cs refl below edition edition_read in
+      let second = single-back 0x62 8 (drop 4 cs) refl (below-drop 256 4 cs below) (said_in cs).clock clock_read in
+      let third = single-back 0x63 8 (drop 15 cs) refl (below-drop 256 15 cs below) (said_in cs).collected collected_read in
       take-add 4 22 cs ∙ ap (λ (l : List ℕ). take 4 cs ++ l) (take-add 11 11 (drop 4 cs) ∙ ap (λ (l : List ℕ). take 11 (drop 4 cs) ++ take 11 l) (drop-drop 11 4 cs))
       ∙ (λ i. first i ++ (second i ++ third i))
 
   places-back : take (places_of (drop 26 cs)).size (drop 26 cs) ≡ bytes_from spot_bytes 0 (said_in cs).spots
-  places-back = (rows_back spot_bytes place_at (λ p bs h e. spot_back p bs h) limits.places 0 (drop 26 cs) (below-drop 256 26 cs below)).0
+  places-back = (rows_back spot_bytes place_at place-back limits.places 0 (drop 26 cs) (below-drop 256 26 cs below)).0
 
   kept_back : take (kept_of (drop (kept_begin cs) cs)).size (drop (kept_begin cs) cs) ≡ bytes_from manifest_bytes 0 (said_in cs).manifests
   kept_back = (rows_back manifest_bytes manifest_at manifest-back (manifest_limit limits) 0 (drop (kept_begin cs) cs) (below-drop 256 (kept_begin cs) cs below)).0
@@ -189,7 +216,7 @@ module _ (cs : List ℕ) (below : Below 256 cs) (headed : is_headed cs ≡ true)
 -- ---- the ledger that rows say, where it is sound, is a layout
 
 module _ (cs : List ℕ) (good : is_sound (ledger_in cs) ≡ true) where
-  abbrev ss : List Spot
+  abbrev ss : List (Option Object)
   ss = (places_of (drop rows_begin cs)).values
 
   abbrev ms : List Manifest
@@ -207,15 +234,15 @@ module _ (cs : List ℕ) (good : is_sound (ledger_in cs) ≡ true) where
 
   pub state_in : State
   state_in = record {
-    clock = get_or (row_at clock_row (drop clock_at cs)).value.numbers 0 0;
-    highest_collected = get_or (row_at collected_row (drop collected_at cs)).value.numbers 0 0;
-    places = map (λ s. s.object) ss;
+    clock = unwrap_or (number_at clock_row (drop clock_at cs)) 0;
+    highest_collected = unwrap_or (number_at collected_row (drop collected_at cs)) 0;
+    places = map (λ s. unwrap_or s free) ss;
     older = last.0;
     current = last.1;
     holds = xs;
   }
 
-  words_same : words_of word_bits word_count (map (λ (s : Spot). s.taken) ss) ≡ words_of word_bits word_count (map occupied (map (λ (s : Spot). s.object) ss))
+  words_same : words_of word_bits word_count (map is_some ss) ≡ words_of word_bits word_count (map occupied (map (λ s. unwrap_or s free) ss))
   unfolding ledger_in
   words_same = laid-words (ledger_in cs).objects parts.objects
 
@@ -224,7 +251,7 @@ module _ (cs : List ℕ) (good : is_sound (ledger_in cs) ≡ true) where
   laid = λ i. record {
     clock = state_in.clock;
     collected = state_in.highest_collected;
-    objects = record { occupancy = words_same i; items = map (λ s. s.object) ss };
+    objects = record { occupancy = words_same i; items = map (λ s. unwrap_or s free) ss };
     manifests = lay_manifests (last.2 i);
     holds = lay_holds xs;
   }
@@ -233,24 +260,29 @@ module _ (cs : List ℕ) (good : is_sound (ledger_in cs) ≡ true) where
   view_is = ap view laid ∙ view-lay state_in
 
   -- a place is taken exactly where its object is there
-  taken-same : map (λ (s : Spot). s.taken) ss ≡ map occupied (map (λ (s : Spot). s.object) ss)
+  taken-same : map is_some ss ≡ map occupied (map (λ s. unwrap_or s free) ss)
   taken-same =
       let many : length ss ≡ limits.places = rows_all place_at (λ q bs. refl) limits.places 0 (drop rows_begin cs) in
-      sym (flags-words word_bits word_count (map (λ (s : Spot). s.taken) ss) (length-map ss (λ (s : Spot). s.taken) ∙ many))
+      sym (flags-words word_bits word_count (map is_some ss) (length-map ss is_some ∙ many))
       ∙ ap (flags_of word_bits) words_same
-      ∙ flags-words word_bits word_count (map occupied (map (λ (s : Spot). s.object) ss)) (length-map (map (λ (s : Spot). s.object) ss) occupied ∙ length-map ss (λ (s : Spot). s.object) ∙ many)
+      ∙ flags-words word_bits word_count (map occupied (map (λ s. unwrap_or s free) ss)) (length-map (map (λ s. unwrap_or s free) ss) occupied ∙ length-map ss (λ s. unwrap_or s free) ∙ many)
 
   -- its numbers fit their columns, as those of what the rows say do
   state-fits : InForm (said_in cs) → Fits state_in
-  unfolding state_in
+  unfolding state_in fits
   state-fits f = record {
     clock = f.clock;
     collected = f.collected;
-    objects = λ o i. let k = Memᴰ.of_map (λ (s : Spot). s.object) ss i in subst (λ (x : Object). fits object_row.widths (object_cells 0 x).numbers ≡ true) k.2 (f.objects k.0 k.1);
+    objects = λ o i. let k = Memᴰ.of_map (λ s. unwrap_or s free) ss i in object_fits k.0 k.1 o k.2;
     manifests = λ m i. f.manifests m (subst⁻¹ (λ (l : List Manifest). m ∈ l) last.2 i);
     names = λ m i. f.names m (subst⁻¹ (λ (l : List Manifest). m ∈ l) last.2 i);
     holds = f.holds;
   }
+    where
+      -- a free place is all zero
+      object_fits : (s : Option Object) → s ∈ ss → (o : Object) → unwrap_or s free ≡ o → fits object_row.widths (object_cells 0 o).numbers ≡ true
+      object_fits None i o e = subst (λ (x : Object). fits object_row.widths (object_cells 0 x).numbers ≡ true) e refl
+      object_fits (Some x) i o e = subst (λ (x : Object). fits object_row.widths (object_cells 0 x).numbers ≡ true) e (f.objects x i)
 
   -- its content is that of what the rows say
   pub content_is : content_of state_in ≡ content_said (said_in cs)
@@ -275,42 +307,42 @@ image_back bs bytes e =
     )
 
 -- so bytes in no such form are refused with 2
-pub refuses : (bs : List ℕ) → are_bytes bs ≡ true → ((r : Said) → InForm r → bytes_of r ≡ bs → ⊥) → read_of bs ≡ refused Malformed
+pub refuses : (bs : List ℕ) → are_bytes bs ≡ true → ((r : Said) → InForm r → bytes_of r ≡ bs → ⊥) → read_of bs ≡ Err Malformed
 refuses bs bytes never = by (is_image bs) refl
   where
-    by : (b : Bool) → is_image bs ≡ b → read_of bs ≡ refused Malformed
+    by : (b : Bool) → is_image bs ≡ b → read_of bs ≡ Err Malformed
     by true e = let r = image_back bs bytes e in absurd (never (said_in (drop 3 bs)) r.0 r.1)
     by false e = refused-by bs e
 
 -- what was read is sound, and what the rows say
-read_as : (bs : List ℕ) (l : Ledger) → read_of bs ≡ record { reading = Read; ledger = l } → (is_image bs ≡ true) × (is_sound (ledger_in (drop 3 bs)) ≡ true) × (ledger_in (drop 3 bs) ≡ l)
+read_as : (bs : List ℕ) (l : Ledger) → read_of bs ≡ Ok l → (is_image bs ≡ true) × (is_sound (ledger_in (drop 3 bs)) ≡ true) × (ledger_in (drop 3 bs) ≡ l)
 unfolding read_of
 read_as bs l = by (is_image bs) (is_sound (ledger_in (drop 3 bs))) refl refl
   where
-    answer : Bool → Bool → ImageRead
-    answer b t = cond b (cond t (record { reading = Read; ledger = ledger_in (drop 3 bs) }) (refused Unsound)) (refused Malformed)
+    answer : Bool → Bool → Result Ledger LoadError
+    answer b t = cond b (cond t (Ok (ledger_in (drop 3 bs))) (Err Unsound)) (Err Malformed)
 
-    by : (b t : Bool) → is_image bs ≡ b → is_sound (ledger_in (drop 3 bs)) ≡ t → answer b t ≡ record { reading = Read; ledger = l }
+    by : (b t : Bool) → is_image bs ≡ b → is_sound (ledger_in (drop 3 bs)) ≡ t → answer b t ≡ Ok l
         → (is_image bs ≡ true) × (is_sound (ledger_in (drop 3 bs)) ≡ true) × (ledger_in (drop 3 bs) ≡ l)
-    by true true e f g = (e, f, ap (λ (r : ImageRead). r.ledger) g)
-    by true false e f g = absurd (omega (arith, ap (λ (r : ImageRead). read_code r.reading) g))
-    by false t e f g = absurd (omega (arith, ap (λ (r : ImageRead). read_code r.reading) g))
+    by true true e f g = (e, f, cc)
+    by true false e f g = cc
+    by false t e f g = cc
 
 -- a ledger that was read is the layout of a sound state
-pub read-laid : (bs : List ℕ) (l : Ledger) → read_of bs ≡ record { reading = Read; ledger = l } → (s : State) × (l ≡ lay s) × (sound limits s ≡ true)
+pub read-laid : (bs : List ℕ) (l : Ledger) → read_of bs ≡ Ok l → (s : State) × (l ≡ lay s) × (sound limits s ≡ true)
 read-laid bs l e =
     let r = read_as bs l e in
     let cs = drop 3 bs in
     (state_in cs r.1, sym r.2 ∙ laid cs r.1, ap (sound limits) (sym (view_is cs r.1)) ∙ sound-view (ledger_in cs) r.1)
 
 -- so are the numbers of what was read
-pub read_fits : (bs : List ℕ) (l : Ledger) → are_bytes bs ≡ true → read_of bs ≡ record { reading = Read; ledger = l } → Fits (view l)
+pub read_fits : (bs : List ℕ) (l : Ledger) → are_bytes bs ≡ true → read_of bs ≡ Ok l → Fits (view l)
 read_fits bs l bytes e =
     let r = read_as bs l e in
     let cs = drop 3 bs in
     subst Fits (sym (view_is cs r.1) ∙ ap view r.2) (state-fits cs r.1 (image_back bs bytes r.0).0)
 
-pub writes_read_lem : (bs : List ℕ) (l : Ledger) → are_bytes bs ≡ true → read_of bs ≡ record { reading = Read; ledger = l } → (is_sound l ≡ true) × (image_of (view l) ≡ bs)
+pub writes_read_lem : (bs : List ℕ) (l : Ledger) → are_bytes bs ≡ true → read_of bs ≡ Ok l → (is_sound l ≡ true) × (image_of (view l) ≡ bs)
 unfolding image_of
 writes_read_lem bs l bytes e =
     let r = read_as bs l e in

@@ -1,66 +1,46 @@
 -- What the code keeps of what Rows.antt, Image.antt and Reading.antt define: rows in their places. Assumes nothing.
-use Rattle.std.specs.Prelude.{◌≡◌, Bool, true, cond, List, ℕ, ◌≤◌, eqb, length, get_or}
+use Rattle.std.specs.Prelude.{◌≡◌, cond, ◌&&◌, List, ◌++◌, ℕ, eqb, length, drop, Option, None, Some}
+use Rattle.std.specs.Option.{option_map}
 use Rattle.fields.specs.Fields.{over}
+use Rattle.rules.specs.declared.Object.{Object}
 use Rattle.rules.specs.declared.Hold.{Hold}
-use Rattle.rules.specs.Limits.{word_bits}
 use Rattle.rules.specs.State.{Manifest}
-use Rattle.arrays.specs.Arrays.{pad}
-use Rattle.objects.specs.Occupancy.{with_flag}
+use Rattle.objects.specs.declared.Objects.{Objects}
+use Rattle.manifests.specs.declared.KeptManifest.{KeptManifest}
+use Rattle.manifests.specs.declared.Manifests.{Manifests}
 use Rattle.manifests.specs.Manifests.{lay_manifest, lay_manifests}
+use Rattle.holds.specs.declared.Holds.{Holds}
 use Rattle.holds.specs.Holds.{lay_holds}
-use Rattle.image.specs.declared.Line.{Line}
-use Rattle.image.specs.declared.Spot.{Spot}
-use Rattle.image.specs.declared.ManifestFound.{ManifestFound}
-use Rattle.image.specs.declared.HoldFound.{HoldFound}
-use Rattle.image.specs.declared.ObjectsRead.{ObjectsRead}
-use Rattle.image.specs.declared.ManifestsRead.{ManifestsRead}
-use Rattle.image.specs.declared.HoldsRead.{HoldsRead}
-use Rattle.image.specs.declared.RowsRead.{RowsRead}
-use Rattle.image.specs.Rows.{Cells, Row, Rows, total}
-use Rattle.image.specs.Reading.{objects_of, rows_end, ledger_in}
+use Rattle.ledger.specs.declared.Ledger.{Ledger}
+use Rattle.image.specs.declared.rows.Form.{Form}
+use Rattle.image.specs.declared.rows.Line.{Line}
+use Rattle.image.specs.declared.rows.Found.{Found}
+use Rattle.image.specs.Rows.{Format, Cells, Rows, found_as}
+use Rattle.image.specs.Reading.{objects_of, is_headed, rows_end, ledger_in}
 
--- the columns that a row has at most
-abbrev pub most_columns : ℕ
-most_columns = 6
+-- the form that the code has of a row
+abbrev pub format_of : {n : ℕ} → Form n → Format
+format_of f = record { tag = f.tag; widths = f.widths; names = f.names }
 
--- widths that a row's places have room for
-pub record Form (ws : List ℕ) (width : ℕ) : Type 0 where
-  pub wide : total ws ≡ width
-  pub columns : length ws ≤ most_columns
+-- a row as the code has it: its names are left out, and how many they are stands for them
+abbrev pub line : {n : ℕ} → Cells → Line n
+line c = record { numbers = c.numbers; names = length c.names }
 
--- a row in its places, without its names
-abbrev pub line : Row Cells → Line
-line r = record { found = r.found; size = r.size; numbers = pad most_columns 0 r.value.numbers; count = length r.value.names }
+abbrev pub found_line : {n : ℕ} → Option (Found Cells) → Option (Found (Line n))
+found_line r = option_map (found_as line) r
 
--- a manifest of a row's columns and names
-abbrev pub made_manifest : Line → List ℕ → ManifestFound
-made_manifest l names = record {
-  found = l.found;
-  size = l.size;
-  manifest = record { number = get_or l.numbers 0 0; writer = get_or l.numbers 1 0; compactor = get_or l.numbers 2 0; count = l.count; names = names };
-}
+abbrev pub found_manifest : Option (Found Manifest) → Option (Found KeptManifest)
+found_manifest r = option_map (found_as lay_manifest) r
 
-abbrev pub found_manifest : Row Manifest → ManifestFound
-found_manifest r = record { found = r.found; size = r.size; manifest = lay_manifest r.value }
+-- rows that were read into places: how many they are and their bytes, and behind them what was there
+pub record Filled {A : Type 0} (rs : Rows A) (before after : List A) (r : Found ℕ) : Type 0 where
+  pub count : r.value ≡ length rs.values
+  pub size : r.size ≡ rs.size
+  pub places : after ≡ rs.values ++ drop (length rs.values) before
 
-abbrev pub found_hold : Row Hold → HoldFound
-found_hold r = record { found = r.found; size = r.size; hold = r.value }
-
-abbrev pub objects_read : Rows Spot → ObjectsRead
-objects_read rs = record { objects = objects_of rs.values; size = rs.size }
-
-abbrev pub manifests_read : Rows Manifest → ManifestsRead
-manifests_read rs = record { manifests = lay_manifests rs.values; size = rs.size }
-
-abbrev pub holds_read : Rows Hold → HoldsRead
-holds_read rs = record { holds = lay_holds rs.values; size = rs.size }
-
-abbrev pub rows_read : List ℕ → RowsRead
-rows_read bs = record { whole = eqb (rows_end bs) (length bs); ledger = ledger_in bs }
-
--- the bit of a taken place is set
-abbrev pub marked : Bool → ℕ → List ℕ → List ℕ
-marked taken at ws = cond taken (with_flag word_bits true at ws) ws
+-- the ledger of the rows, where the first three are there and nothing stands behind the last
+abbrev pub rows_read : List ℕ → Option Ledger
+rows_read bs = cond (is_headed bs && eqb (rows_end bs) (length bs)) (Some (ledger_in bs)) None
 
 -- bytes laid over the start of a buffer, and how many they are
 pub record Put (bytes before after : List ℕ) (n : ℕ) : Type 0 where

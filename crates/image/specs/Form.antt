@@ -1,33 +1,34 @@
 -- The form of an image, apart from how it is read (document 02, request 6): which bytes have it, so to which the reader answers 2. Numbers fit their columns
 -- and bytes are below 256, as the types have it. Proved in proofs/Form.antt. Assumes nothing.
-use Rattle.std.specs.Prelude.{◌≡◌, true, false, cond, List, [], ◌++◌, ℕ, ◌^◌, ◌≤◌, ◌<◌, ltb, length}
+use Rattle.std.specs.Prelude.{◌≡◌, true, List, [], ◌++◌, ℕ, ◌^◌, ◌≤◌, ◌<◌, ltb, length, Option, None, Some, Err}
 use Rattle.fields.specs.Fields.{field}
+use Rattle.rules.specs.declared.Object.{Object}
 use Rattle.rules.specs.declared.Hold.{Hold}
 use Rattle.rules.specs.Lists.{◌∈◌, all}
 use Rattle.rules.specs.Limits.{limits, manifest_limit}
-use Rattle.rules.specs.State.{Manifest, free}
+use Rattle.rules.specs.State.{Manifest}
 use Rattle.manifests.specs.Manifests.{lay_manifests}
 use Rattle.holds.specs.Holds.{lay_holds}
 use Rattle.ledger.specs.declared.Ledger.{Ledger}
 use Rattle.records.specs.RoundTrip.{are_bytes}
-use Rattle.image.specs.declared.Spot.{Spot}
-use Rattle.image.specs.declared.Reading.TheVariants.{Malformed}
+use Rattle.image.specs.declared.LoadError.TheVariants.{Malformed}
 use Rattle.image.specs.Rows.{row_of, bytes_from}
 use Rattle.image.specs.Fit.{fits}
 use Rattle.image.specs.Format.{object_row, object_cells, manifest_row, manifest_cells, hold_row, hold_cells}
 use Rattle.image.specs.Image.{image_tag, head_bytes, manifest_bytes, hold_bytes}
-use Rattle.image.specs.Reading.{objects_of, sound_or, refused, read_of}
+use Rattle.image.specs.Reading.{objects_of, sound_or, read_of}
 
 -- what an image says: a spot for each place, with an object or free, the manifests and the holds
 pub record Said : Type 0 where
   pub clock : ℕ
   pub collected : ℕ
-  pub spots : List Spot
+  pub spots : List (Option Object)
   pub manifests : List Manifest
   pub holds : List Hold
 
-abbrev pub spot_bytes : ℕ → Spot → List ℕ
-spot_bytes p s = cond s.taken (row_of object_row (object_cells p s.object)) []
+abbrev pub spot_bytes : ℕ → Option Object → List ℕ
+spot_bytes p None = []
+spot_bytes p (Some o) = row_of object_row (object_cells p o)
 
 -- its bytes: "fields in this order", "a 64 for each object by rising place, a 65 for each manifest, a 66 for each hold"
 abbrev pub content : Said → List ℕ
@@ -52,8 +53,7 @@ pub record InForm (r : Said) : Type 0 where
   pub clock : r.clock < 2 ^ 64
   pub collected : r.collected < 2 ^ 64
   pub places : length r.spots ≡ limits.places
-  pub clear : (s : Spot) → s ∈ r.spots → s.taken ≡ false → s.object ≡ free
-  pub objects : (s : Spot) → s ∈ r.spots → fits object_row.widths (object_cells 0 s.object).numbers ≡ true
+  pub objects : (o : Object) → Some o ∈ r.spots → fits object_row.widths (object_cells 0 o).numbers ≡ true
   pub keeps : length r.manifests ≤ manifest_limit limits
   pub manifests : (m : Manifest) → m ∈ r.manifests → fits manifest_row.widths (manifest_cells m).numbers ≡ true
   pub short : (m : Manifest) → m ∈ r.manifests → length m.names ≤ limits.names
@@ -65,4 +65,4 @@ pub record ImageForm : Type 0 where
   -- bytes in this form are read as their ledger, or refused with 1 where that is not sound
   pub formed : (r : Said) → InForm r → read_of (bytes_of r) ≡ sound_or (ledger_said r)
   -- all other bytes are refused with 2
-  pub refuses : (bs : List ℕ) → are_bytes bs ≡ true → ((r : Said) → InForm r → bytes_of r ≡ bs → ⊥) → read_of bs ≡ refused Malformed
+  pub refuses : (bs : List ℕ) → are_bytes bs ≡ true → ((r : Said) → InForm r → bytes_of r ≡ bs → ⊥) → read_of bs ≡ Err Malformed

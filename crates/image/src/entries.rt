@@ -1,25 +1,41 @@
 // The rows of an image: of one number, of an object, of a manifest, of a hold. This file alone knows their columns.
-ghost use Rattle.std.specs.Prelude.{◌≡◌, true, [], ◌∷◌, ◌+◌, ◌≤◌, ◌<◌, length, drop};
-ghost use Rattle.rules.specs.State.{occupied};
+ghost use Rattle.std.specs.Prelude.{◌≡◌, ℕ, Bool, true, List, [], ◌≤◌, length, drop, IfSome, OnSome, Option};
 ghost use Rattle.manifests.specs.Manifests.{is_list_laid, manifest_of};
-ghost use Rattle.image.specs.Rows.{numbers_of, row_of, row_at};
-ghost use Rattle.records.specs.Format.{role_code};
-ghost use Rattle.image.specs.Format.{flag, single, object_row, object_size, object_cells, is_object_at, object_from};
+ghost use Rattle.image.specs.declared.rows.Found.{Found};
+ghost use Rattle.image.specs.Rows.{numbers_of};
+ghost use Rattle.image.specs.Format.{object_row, object_size, object_cells};
 ghost use Rattle.image.specs.Image.{place_bytes, manifest_bytes, hold_bytes};
-ghost use Rattle.image.specs.Reading.{no_spot, spot_at, spot_size, manifest_at, hold_at};
-ghost use Rattle.image.specs.Code.{line, made_manifest, found_manifest, found_hold, Put};
+ghost use Rattle.image.specs.Reading.{object_in, spot_at, manifest_at, hold_at};
+ghost use Rattle.image.specs.Code.{found_manifest};
 
-use crate::{COLUMNS, HoldFound, Line, ManifestFound, Spot, rows};
-use fields::Head;
+use crate::rows::{Form, Found};
 use manifests::KeptManifest;
-use rules::{Hold, NAMES, Object, Role};
+use rules::{Hold, NAMES, Object};
 
-const OBJECT_TAG: u8 = 0x64;
+// Rows of one number
 
-// place, object, role, epoch, currency, named
-const OBJECT_WIDTHS: [usize; 6] = [1, 8, 1, 8, 2, 1];
+pub(crate) const EDITION: Form<1> = Form {
+    tag: 0x61,
+    widths: [1],
+    width: 1,
+    names: 0,
+};
 
-// Where they stand in the row, and its end.
+pub(crate) const CLOCK: Form<1> = Form {
+    tag: 0x62,
+    widths: [8],
+    width: 8,
+    names: 0,
+};
+
+pub(crate) const COLLECTED: Form<1> = Form {
+    tag: 0x63,
+    widths: [8],
+    width: 8,
+    names: 0,
+};
+
+// Where the columns of an object's row stand, and its end: place, object, role, epoch, currency, named.
 const PLACE_AT: usize = 3;
 
 const NUMBER_AT: usize = PLACE_AT + 1;
@@ -32,294 +48,205 @@ const CURRENCY_AT: usize = EPOCH_AT + 8;
 
 const NAMED_AT: usize = CURRENCY_AT + 2;
 
-const OBJECT_WIDTH: usize = NAMED_AT + 1 - PLACE_AT;
+pub(crate) const OBJECT_ROW: usize = NAMED_AT + 1;
 
-pub(crate) const OBJECT_ROW: usize = 3 + OBJECT_WIDTH;
-
-const MANIFEST_TAG: u8 = 0x65;
+const OBJECT: Form<6> = Form {
+    tag: 0x64,
+    widths: [1, 8, 1, 8, 2, 1],
+    width: OBJECT_ROW - 3,
+    names: 0,
+};
 
 // manifest, writer epoch, compactor epoch; the list stands behind them
-const MANIFEST_WIDTHS: [usize; 3] = [8, 8, 8];
+const MANIFEST: Form<3> = Form {
+    tag: 0x65,
+    widths: [8, 8, 8],
+    width: 24,
+    names: NAMES,
+};
 
-const MANIFEST_WIDTH: usize = 24;
-
-pub(crate) const MANIFEST_ROW: usize = 3 + MANIFEST_WIDTH;
-
-const HOLD_TAG: u8 = 0x66;
+pub(crate) const MANIFEST_ROW: usize = 3 + MANIFEST.width;
 
 // hold, manifest, expiry
-const HOLD_WIDTHS: [usize; 3] = [8, 8, 8];
+const HOLD: Form<3> = Form {
+    tag: 0x66,
+    widths: [8, 8, 8],
+    width: 24,
+    names: 0,
+};
 
-const HOLD_WIDTH: usize = 24;
+pub(crate) const HOLD_ROW: usize = 3 + HOLD.width;
 
-pub(crate) const HOLD_ROW: usize = 3 + HOLD_WIDTH;
+// What an image has a row for.
+pub(crate) trait Entry {
+    // whether its row says all of it
+    ghost fits: { Self → Bool };
 
-// A row of one number
+    // the bytes of its row, with so many others of its kind before it
+    ghost bytes: { ℕ → Self → List ℕ };
 
-// The row at the front.
-pub(crate) fn single_at(s: &[u8], tag: u8, width: usize) -> Line
-    ensures { result ≡ line (row_at (record { tag = tag; widths = width ∷ []; names = 0 }) s.now) }
-{
-    let widths = [width];
-    rows::row_at(s, tag, &widths, width, 0)
+    // How many bytes its row has.
+    fn size(&self) -> usize
+        requires { fits self.now ≡ true }
+        ensures { (p : ℕ) → result ≡ length (bytes p self.now) };
+
+    // Fills the slice with its row.
+    fn put(&self, place: usize, out: &mut [u8])
+        requires { (fits self.now ≡ true) × (length out.old ≡ length (bytes place self.now)) }
+        ensures { out.new ≡ bytes place self.now };
 }
 
-// Fills the slice with it.
-pub(crate) fn put_single(tag: u8, width: usize, number: u64, out: &mut [u8])
-    requires { 3 + width ≡ length out.old }
-    ensures { out.new ≡ row_of (record { tag = tag; widths = width ∷ []; names = 0 }) (single number) }
-{
-    let widths = [width];
-    let numbers = [number];
-    let names = [0u64; 0];
-    rows::put_row(tag, &widths, width, &numbers, &names, out);
+// What stands packed, so that its row says no place.
+pub(crate) trait Packed: Entry + Copy {
+    // the one whose row stands at the front
+    ghost front: { List ℕ → Option (Found Self) };
+
+    fn read(s: &[u8]) -> Option<Found<Self>>
+        ensures is { result ≡ front s.now }
+        ensures there { IfSome result (λ r. r.size ≤ length s.now) };
 }
 
 // Objects
 
-fn role_number(role: Role) -> u64
-    ensures { result ≡ role_code role }
-{
-    match role {
-        Role::Writer => 0,
-        Role::Compactor => 1,
-    }
-}
-
-fn flag_number(b: bool) -> u64
-    ensures { result ≡ flag b }
-{
-    if b {
-        return 1;
-    }
-    0
-}
-
-fn object_numbers(place: u64, o: Object) -> [u64; COLUMNS]
+fn object_numbers(place: u64, o: Object) -> [u64; 6]
     ensures { result ≡ (object_cells place o).numbers }
 {
-    let role = o.role;
-    let r = role_number(role);
-    let named = o.named;
-    let m = flag_number(named);
-    [place, o.number, r, o.epoch, o.currency as u64, m]
+    [
+        place,
+        o.number,
+        records::role_number(o.role),
+        o.epoch,
+        u64::from(o.currency),
+        u64::from(o.named),
+    ]
 }
 
-fn role_from(n: u64) -> Role
-    ensures { result ≡ (object_from (0 ∷ 0 ∷ n ∷ [])).role }
+// The object of a row that says this place.
+fn object_in(place: u64, columns: [u64; 6]) -> Option<Object>
+    ensures { result ≡ object_in place (record { numbers = columns; names = [] }) }
 {
-    if n == 0 {
-        return Role::Writer;
+    let [at, number, role, epoch, currency, named] = columns;
+    if at != place || 1 < named {
+        return None;
     }
-    Role::Compactor
-}
-
-fn object_from(v: [u64; COLUMNS]) -> Object
-    ensures { result ≡ object_from v }
-{
-    let number = v[1];
-    let role = role_from(v[2]);
-    let epoch = v[3];
-    let currency = (v[4] % 65536) as u16;
-    let named = v[5] != 0;
-    Object {
+    Some(Object {
         number,
-        role,
+        role: records::role_from(role)?,
         epoch,
-        currency,
-        named,
-    }
-}
-
-fn is_object_at(place: u64, v: [u64; COLUMNS]) -> bool
-    ensures { result ≡ is_object_at place v }
-{
-    if v[0] != place {
-        return false;
-    }
-    if 1 < v[2] {
-        return false;
-    }
-    v[5] <= 1
-}
-
-fn no_spot() -> Spot
-    ensures { result ≡ no_spot }
-{
-    let object = objects::no_object();
-    Spot {
-        taken: false,
-        object,
-    }
-}
-
-fn byte(b: u8) -> u64
-    ensures { (result ≡ b) × (result < 256) }
-{
-    b as u64
+        currency: (currency % 65536) as u16,
+        named: named != 0,
+    })
 }
 
 // The numbers of an object's row, read where they stand: most of an image is such rows.
-fn object_columns(s: &[u8]) -> [u64; COLUMNS]
+fn object_columns(s: &[u8]) -> [u64; 6]
     requires { object_size ≤ length s.now }
     ensures { result ≡ numbers_of object_row.widths (drop 3 s.now) }
 {
     [
-        byte(s[PLACE_AT]),
+        u64::from(s[PLACE_AT]),
         fields::eight(s, NUMBER_AT),
-        byte(s[ROLE_AT]),
+        u64::from(s[ROLE_AT]),
         fields::eight(s, EPOCH_AT),
         fields::pair(s, CURRENCY_AT),
-        byte(s[NAMED_AT]),
+        u64::from(s[NAMED_AT]),
     ]
 }
 
-// The place, with the object whose row stands at the front.
-pub(crate) fn spot_at(s: &[u8], place: u64) -> Spot
-    ensures { result ≡ spot_at place s.now }
+// The object whose row stands at the front, if that says this place.
+pub(crate) fn spot_at(s: &[u8], place: u64) -> Option<Object>
+    ensures is { result ≡ spot_at place s.now }
+    ensures room { OnSome result (object_size ≤ length s.now) }
 {
-    let head = rows::row_head(s, OBJECT_TAG, OBJECT_WIDTH, 0);
-    let Head::Holds(_) = head else {
-        return no_spot();
-    };
-    let v = object_columns(s);
-    if !is_object_at(place, v) {
-        return no_spot();
-    }
-    let object = object_from(v);
-    Spot {
-        taken: true,
-        object,
-    }
+    OBJECT.head(s)?;
+    object_in(place, object_columns(s))
 }
 
-// The bytes of a place's row: none where it is free.
-pub(crate) fn place_size(o: Object) -> usize
-    ensures { result ≡ spot_size (occupied o) }
-{
-    if o.number == 0 {
-        return 0;
-    }
-    OBJECT_ROW
-}
+// A free place has no row.
+impl Entry for Object {
+    ghost fits = { λ _. true };
 
-// Lays a place's row over the start of the slice.
-pub(crate) fn put_place(place: u64, o: Object, out: &mut [u8]) -> usize
-    requires { length (place_bytes place o) ≤ length out.old }
-    ensures { Put (place_bytes place o) out.old out.new result }
-{
-    if o.number == 0 {
-        return 0;
+    ghost bytes = { place_bytes };
+
+    fn size(&self) -> usize {
+        if self.number == 0 { 0 } else { OBJECT_ROW }
     }
-    let numbers = object_numbers(place, o);
-    let names = [0u64; 0];
-    rows::put_row(
-        OBJECT_TAG,
-        &OBJECT_WIDTHS,
-        OBJECT_WIDTH,
-        &numbers,
-        &names,
-        &mut out[..OBJECT_ROW],
-    );
-    OBJECT_ROW
+
+    fn put(&self, place: usize, out: &mut [u8]) {
+        if self.number != 0 {
+            OBJECT.put(&object_numbers(place as u64, *self), &[], out);
+        }
+    }
 }
 
 // Manifests
 
-// The manifest of a row's columns and names.
-fn manifest_from(row: Line, names: [u64; NAMES]) -> ManifestFound
-    ensures { result ≡ made_manifest row names }
-{
-    let v = row.numbers;
-    let manifest = KeptManifest {
-        number: v[0],
-        writer: v[1],
-        compactor: v[2],
-        count: row.count,
-        names,
-    };
-    ManifestFound {
-        found: row.found,
-        size: row.size,
-        manifest,
+impl Entry for KeptManifest {
+    ghost fits = { is_list_laid };
+
+    ghost bytes = { λ p m. manifest_bytes p (manifest_of m) };
+
+    fn size(&self) -> usize {
+        MANIFEST_ROW + 8 * self.count
+    }
+
+    fn put(&self, _place: usize, out: &mut [u8]) {
+        let numbers = [self.number, self.writer, self.compactor];
+        MANIFEST.put(&numbers, &self.names[..self.count], out);
     }
 }
 
-// The manifest whose row stands at the front.
-pub(crate) fn manifest_at(s: &[u8]) -> ManifestFound
-    ensures { result ≡ found_manifest (manifest_at 0 s.now) }
-{
-    let row = rows::row_at(s, MANIFEST_TAG, &MANIFEST_WIDTHS, MANIFEST_WIDTH, NAMES);
-    let mut names = [0u64; NAMES];
-    if !row.found {
-        return manifest_from(row, names);
+impl Packed for KeptManifest {
+    ghost front = { λ bs. found_manifest (manifest_at 0 bs) };
+
+    fn read(s: &[u8]) -> Option<Found<KeptManifest>> {
+        let row = MANIFEST.read(s)?;
+        let [number, writer, compactor] = row.value.numbers;
+        let count = row.value.names;
+        let mut names = [0; NAMES];
+        fields::read_words(&s[MANIFEST_ROW..], &mut names[..count]);
+        Some(Found {
+            value: KeptManifest {
+                number,
+                writer,
+                compactor,
+                count,
+                names,
+            },
+            size: row.size,
+        })
     }
-    let count = row.count;
-    fields::read_words(&s[MANIFEST_ROW..], &mut names[..count]);
-    manifest_from(row, names)
-}
-
-pub(crate) fn manifest_size(m: KeptManifest) -> usize
-    requires { is_list_laid m ≡ true }
-    ensures { result ≡ length (manifest_bytes 0 (manifest_of m)) }
-{
-    MANIFEST_ROW + 8 * m.count
-}
-
-// Lays a manifest's row over the start of the slice.
-pub(crate) fn put_manifest(m: KeptManifest, out: &mut [u8]) -> usize
-    requires { (is_list_laid m ≡ true) × (length (manifest_bytes 0 (manifest_of m)) ≤ length out.old) }
-    ensures { Put (manifest_bytes 0 (manifest_of m)) out.old out.new result }
-{
-    let count = m.count;
-    let names = m.names;
-    let numbers = [m.number, m.writer, m.compactor];
-    let size = MANIFEST_ROW + 8 * count;
-    rows::put_row(
-        MANIFEST_TAG,
-        &MANIFEST_WIDTHS,
-        MANIFEST_WIDTH,
-        &numbers,
-        &names[..count],
-        &mut out[..size],
-    );
-    size
 }
 
 // Holds
 
-// The hold whose row stands at the front.
-pub(crate) fn hold_at(s: &[u8]) -> HoldFound
-    ensures { result ≡ found_hold (hold_at 0 s.now) }
-{
-    let row = rows::row_at(s, HOLD_TAG, &HOLD_WIDTHS, HOLD_WIDTH, 0);
-    let v = row.numbers;
-    let hold = Hold {
-        number: v[0],
-        manifest: v[1],
-        expiry: v[2],
-    };
-    HoldFound {
-        found: row.found,
-        size: row.size,
-        hold,
+impl Entry for Hold {
+    ghost fits = { λ _. true };
+
+    ghost bytes = { hold_bytes };
+
+    fn size(&self) -> usize {
+        HOLD_ROW
+    }
+
+    fn put(&self, _place: usize, out: &mut [u8]) {
+        HOLD.put(&[self.number, self.manifest, self.expiry], &[], out);
     }
 }
 
-// Lays a hold's row over the start of the slice.
-pub(crate) fn put_hold(hold: Hold, out: &mut [u8]) -> usize
-    requires { length (hold_bytes 0 hold) ≤ length out.old }
-    ensures { Put (hold_bytes 0 hold) out.old out.new result }
-{
-    let numbers = [hold.number, hold.manifest, hold.expiry];
-    let names = [0u64; 0];
-    rows::put_row(
-        HOLD_TAG,
-        &HOLD_WIDTHS,
-        HOLD_WIDTH,
-        &numbers,
-        &names,
-        &mut out[..HOLD_ROW],
-    );
-    HOLD_ROW
+impl Packed for Hold {
+    ghost front = { hold_at 0 };
+
+    fn read(s: &[u8]) -> Option<Found<Hold>> {
+        let row = HOLD.read(s)?;
+        let [number, manifest, expiry] = row.value.numbers;
+        Some(Found {
+            value: Hold {
+                number,
+                manifest,
+                expiry,
+            },
+            size: row.size,
+        })
+    }
 }

@@ -1,181 +1,91 @@
 // An image read: its rows in their order, and nothing behind them.
-ghost use Rattle.std.specs.Prelude.{◌≡◌, true, ◌≤◌, ◌<◌, ◌*◌, length};
-ghost use Rattle.rules.specs.Limits.{word_bits};
-ghost use Rattle.image.specs.Reading.{spot_size, places_of, kept_of, holds_of, is_headed, refused, read_of};
-ghost use Rattle.image.specs.Code.{marked, objects_read, manifests_read, holds_read, rows_read};
+ghost use Rattle.std.specs.Prelude.{◌≡◌, ◌≤◌, length, replicate};
+ghost use Rattle.rules.specs.Limits.{limits};
+ghost use Rattle.rules.specs.State.{free};
+ghost use Rattle.objects.specs.Objects.{lay_places};
+ghost use Rattle.image.specs.Rows.{rows_from};
+ghost use Rattle.image.specs.Reading.{objects_of, places_of, read_of};
+ghost use Rattle.image.specs.Code.{Filled, rows_read};
 
-use crate::{
-    CLOCK_AT, CLOCK_TAG, COLLECTED_AT, COLLECTED_TAG, EDITION, EDITION_TAG, HoldsRead, IMAGE_TAG,
-    ImageRead, ManifestsRead, ObjectsRead, ROWS_AT, Reading, RowsRead, entries,
-};
-use holds::Holds;
+use crate::entries::{CLOCK, COLLECTED, EDITION, OBJECT_ROW, Packed, spot_at};
+use crate::rows::Found;
+use crate::{CLOCK_AT, COLLECTED_AT, FIRST_EDITION, IMAGE_TAG, LoadError, ROWS_AT};
 use ledger::Ledger;
-use manifests::Manifests;
 use objects::Objects;
-use rules::{HOLDS, MANIFESTS, PLACES, WORDS};
+use rules::PLACES;
 
-// The bit of a taken place is set; the bytes of its row.
-fn mark(words: &mut [u64], at: usize, taken: bool) -> usize
-    requires { at < length words.old * word_bits }
-    ensures { (result ≡ spot_size taken) × (words.new ≡ marked taken at words.old) }
+// Puts the objects whose rows come next into their places, which are all free: how many bytes the rows have.
+fn read_objects(s: &[u8], objects: &mut Objects) -> usize
+    requires { objects.old ≡ lay_places (replicate limits.places free) }
+    ensures objects { objects.new ≡ objects_of (places_of s.now).values }
+    ensures size { result ≡ (places_of s.now).size }
+    ensures room { result ≤ length s.now }
 {
-    if !taken {
-        return 0;
-    }
-    objects::set_bit(words, at);
-    entries::OBJECT_ROW
-}
-
-// The places, each with the object whose row comes next, or free.
-fn read_objects(s: &[u8]) -> ObjectsRead
-    ensures { result ≡ objects_read (places_of s.now) }
-{
-    let mut items = [objects::no_object(); PLACES];
-    let mut words = [0u64; WORDS];
-    let mut at: usize = 0;
-    let mut p: usize = 0;
-    while p < PLACES {
-        let spot = entries::spot_at(&s[at..], p as u64);
-        let o = spot.object;
-        items[p] = o;
-        at += mark(&mut words, p, spot.taken);
-        p += 1;
-    }
-    let objects = Objects {
-        occupancy: words,
-        items,
-    };
-    ObjectsRead { objects, size: at }
-}
-
-// The manifests whose rows come next, as many as there are places for.
-fn read_manifests(s: &[u8]) -> ManifestsRead
-    ensures { result ≡ manifests_read (kept_of s.now) }
-{
-    let none = Manifests::first();
-    let mut items = none.items;
-    let mut at: usize = 0;
-    let mut i: usize = 0;
-    while i < MANIFESTS {
-        let row = entries::manifest_at(&s[at..]);
-        if !row.found {
-            break;
+    let mut at = 0;
+    for place in 0..PLACES {
+        if let Some(object) = spot_at(&s[at..], place as u64) {
+            objects.items[place] = object;
+            objects::set_bit(&mut objects.occupancy, place);
+            at += OBJECT_ROW;
         }
-        let m = row.manifest;
-        items[i] = m;
-        at += row.size;
-        i += 1;
     }
-    let manifests = Manifests { count: i, items };
-    ManifestsRead {
-        manifests,
+    at
+}
+
+// Reads the rows that come next into the places, as many as there are places: how many they are, and their bytes.
+fn read_packed<T: Packed>(s: &[u8], places: &mut [T]) -> Found<usize>
+    ensures filled { Filled (rows_from (λ p bs. T.front bs) (length places.old) 0 s.now) places.old places.new result }
+    ensures room { result.size ≤ length s.now }
+{
+    let mut at = 0;
+    for (i, place) in places.iter_mut().enumerate() {
+        let Some(row) = T::read(&s[at..]) else {
+            return Found { value: i, size: at };
+        };
+        *place = row.value;
+        at += row.size;
+    }
+    Found {
+        value: places.len(),
         size: at,
     }
 }
 
-// The holds whose rows come next, as many as there are places for.
-fn read_holds(s: &[u8]) -> HoldsRead
-    ensures { result ≡ holds_read (holds_of s.now) }
-{
-    let none = Holds::none();
-    let mut items = none.items;
-    let mut at: usize = 0;
-    let mut i: usize = 0;
-    while i < HOLDS {
-        let row = entries::hold_at(&s[at..]);
-        if !row.found {
-            break;
-        }
-        let x = row.hold;
-        items[i] = x;
-        at += row.size;
-        i += 1;
-    }
-    let holds = Holds { count: i, items };
-    HoldsRead { holds, size: at }
-}
-
-// Whether the edition, the clock and the highest number collected stand at the front.
-fn is_headed(s: &[u8]) -> bool
-    ensures { result ≡ is_headed s.now }
-{
-    let edition = entries::single_at(s, EDITION_TAG, 1);
-    if !edition.found {
-        return false;
-    }
-    let v = edition.numbers;
-    if v[0] != EDITION {
-        return false;
-    }
-    let clock = entries::single_at(&s[CLOCK_AT..], CLOCK_TAG, 8);
-    if !clock.found {
-        return false;
-    }
-    let collected = entries::single_at(&s[COLLECTED_AT..], COLLECTED_TAG, 8);
-    collected.found
-}
-
-fn refuse(reading: Reading) -> ImageRead
-    ensures { result ≡ refused reading }
-{
-    let ledger = Ledger::fresh();
-    ImageRead { reading, ledger }
-}
-
-// The ledger of the rows, and whether they are all.
-fn read_rows(s: &[u8]) -> RowsRead
-    requires { is_headed s.now ≡ true }
+// The ledger of the rows, where nothing stands behind them.
+fn read_rows(s: &[u8]) -> Option<Ledger>
     ensures { result ≡ rows_read s.now }
 {
-    let clock_row = entries::single_at(&s[CLOCK_AT..], CLOCK_TAG, 8);
-    let c = clock_row.numbers;
-    let collected_row = entries::single_at(&s[COLLECTED_AT..], COLLECTED_TAG, 8);
-    let h = collected_row.numbers;
-    let places = read_objects(&s[ROWS_AT..]);
-    let kept_at = ROWS_AT + places.size;
-    let kept = read_manifests(&s[kept_at..]);
-    let held_at = kept_at + kept.size;
-    let held = read_holds(&s[held_at..]);
-    let objects = places.objects;
-    let manifests = kept.manifests;
-    let holds = held.holds;
-    let ledger = Ledger {
-        clock: c[0],
-        collected: h[0],
-        objects,
-        manifests,
-        holds,
-    };
-    RowsRead {
-        whole: held_at + held.size == s.len(),
-        ledger,
+    if EDITION.number(s)? != FIRST_EDITION {
+        return None;
     }
+    let mut ledger = Ledger::fresh();
+    ledger.clock = CLOCK.number(&s[CLOCK_AT..])?;
+    ledger.collected = COLLECTED.number(&s[COLLECTED_AT..])?;
+    let kept_at = ROWS_AT + read_objects(&s[ROWS_AT..], &mut ledger.objects);
+    let kept = read_packed(&s[kept_at..], &mut ledger.manifests.items);
+    ledger.manifests.count = kept.value;
+    let held_at = kept_at + kept.size;
+    let held = read_packed(&s[held_at..], &mut ledger.holds.items);
+    ledger.holds.count = held.value;
+    if held_at + held.size != s.len() {
+        return None;
+    }
+    Some(ledger)
 }
 
 // Takes all the bytes lent as one image.
 #[inline(never)]
-pub fn read_image(bytes: &[u8]) -> ImageRead
+pub fn read_image(bytes: &[u8]) -> Result<Ledger, LoadError>
     ensures { result ≡ read_of bytes.now }
 {
-    if !records::is_whole(bytes) {
-        return refuse(Reading::Malformed);
+    if !records::is_whole(bytes) || bytes[0] != IMAGE_TAG {
+        return Err(LoadError::Malformed);
     }
-    if bytes[0] != IMAGE_TAG {
-        return refuse(Reading::Malformed);
-    }
-    if !is_headed(&bytes[3..]) {
-        return refuse(Reading::Malformed);
-    }
-    let read = read_rows(&bytes[3..]);
-    if !read.whole {
-        return refuse(Reading::Malformed);
-    }
-    let ledger = read.ledger;
+    let Some(ledger) = read_rows(&bytes[3..]) else {
+        return Err(LoadError::Malformed);
+    };
     if !ledger.is_sound() {
-        return refuse(Reading::Unsound);
+        return Err(LoadError::Unsound);
     }
-    ImageRead {
-        reading: Reading::Read,
-        ledger,
-    }
+    Ok(ledger)
 }

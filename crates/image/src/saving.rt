@@ -1,120 +1,61 @@
 // An image written: its length first, then row behind row.
-ghost use Rattle.std.specs.Prelude.{◌≡◌, true, ◌≤◌, length};
-ghost use Rattle.rules.specs.Limits.{limits};
-ghost use Rattle.manifests.specs.Manifests.{manifests_of, is_laid};
-ghost use Rattle.holds.specs.Holds.{holds_of};
+ghost use Rattle.std.specs.Prelude.{◌≡◌, true, ◌^◌, ◌≤◌, ◌<◌, length};
+ghost use Rattle.rules.specs.Lists.{all};
 ghost use Rattle.ledger.specs.Ledger.{view, is_sound};
 ghost use Rattle.image.specs.Rows.{bytes_from};
-ghost use Rattle.image.specs.Image.{head_bytes, place_bytes, manifest_bytes, hold_bytes, image_of};
+ghost use Rattle.image.specs.Image.{head_bytes, image_of};
 ghost use Rattle.image.specs.Reading.{rows_begin};
 ghost use Rattle.image.specs.Writing.{writing_of};
 ghost use Rattle.image.specs.Code.{Put};
 
-use crate::{
-    CLOCK_AT, CLOCK_TAG, COLLECTED_AT, COLLECTED_TAG, EDITION, EDITION_TAG, IMAGE_TAG, ImageWrite,
-    ROWS_AT, entries,
-};
-use holds::Holds;
+use crate::entries::{CLOCK, COLLECTED, EDITION, Entry};
+use crate::{CLOCK_AT, COLLECTED_AT, FIRST_EDITION, IMAGE_TAG, ROWS_AT, SaveError};
 use ledger::Ledger;
-use manifests::Manifests;
-use rules::{Object, PLACES};
 
-// The lengths
-
-fn places_size(items: [Object; PLACES]) -> usize
-    ensures { result ≡ length (bytes_from place_bytes 0 items) }
+// How many bytes the rows of these have.
+fn rows_size<T: Entry>(items: &[T]) -> usize
+    requires { (all T.fits items.now ≡ true) × (length (bytes_from T.bytes 0 items.now) < 2 ^ 64) }
+    ensures { result ≡ length (bytes_from T.bytes 0 items.now) }
 {
-    let mut size: usize = 0;
-    let mut i: usize = 0;
-    while i < PLACES {
-        let o = items[i];
-        size += entries::place_size(o);
-        i += 1;
+    let mut size = 0;
+    for item in items {
+        size += item.size();
     }
     size
 }
 
-fn manifests_size(manifests: Manifests) -> usize
-    requires { is_laid manifests ≡ true }
-    ensures { result ≡ length (bytes_from manifest_bytes 0 (manifests_of manifests)) }
+// Lays the rows of these over the start of the slice: how many bytes they have.
+fn put_rows<T: Entry>(items: &[T], out: &mut [u8]) -> usize
+    requires { (all T.fits items.now ≡ true) × (length (bytes_from T.bytes 0 items.now) ≤ length out.old) }
+    ensures { Put (bytes_from T.bytes 0 items.now) out.old out.new result }
 {
-    let count = manifests.count;
-    let mut size: usize = 0;
-    let mut i: usize = 0;
-    while i < count {
-        let m = manifests.items[i];
-        size += entries::manifest_size(m);
-        i += 1;
+    let mut at = 0;
+    for (i, item) in items.iter().enumerate() {
+        let end = at + item.size();
+        item.put(i, &mut out[at..end]);
+        at = end;
     }
-    size
+    at
 }
 
 fn size_of(ledger: Ledger) -> usize
     requires { is_sound ledger ≡ true }
     ensures { result ≡ length (image_of (view ledger)) }
 {
-    let objects = ledger.objects;
-    let items = objects.items;
-    let manifests = ledger.manifests;
-    let holds = ledger.holds;
-    3 + ROWS_AT + places_size(items) + manifests_size(manifests) + entries::HOLD_ROW * holds.count
+    3 + ROWS_AT
+        + rows_size(&ledger.objects.items)
+        + rows_size(&ledger.manifests.items[..ledger.manifests.count])
+        + rows_size(&ledger.holds.items[..ledger.holds.count])
 }
-
-// The bytes
 
 // Fills the slice with the edition, the clock and the highest number collected.
 fn put_header(clock: u64, collected: u64, out: &mut [u8])
     requires { length out.old ≡ rows_begin }
     ensures { out.new ≡ head_bytes clock collected }
 {
-    entries::put_single(EDITION_TAG, 1, EDITION, &mut out[..CLOCK_AT]);
-    entries::put_single(CLOCK_TAG, 8, clock, &mut out[CLOCK_AT..COLLECTED_AT]);
-    entries::put_single(COLLECTED_TAG, 8, collected, &mut out[COLLECTED_AT..ROWS_AT]);
-}
-
-// Lays the rows of the objects over the start of the slice.
-fn put_places(items: [Object; PLACES], out: &mut [u8]) -> usize
-    requires { length (bytes_from place_bytes 0 items) ≤ length out.old }
-    ensures { Put (bytes_from place_bytes 0 items) out.old out.new result }
-{
-    let mut at: usize = 0;
-    let mut i: usize = 0;
-    while i < PLACES {
-        let o = items[i];
-        at += entries::put_place(i as u64, o, &mut out[at..]);
-        i += 1;
-    }
-    at
-}
-
-fn put_manifests(manifests: Manifests, out: &mut [u8]) -> usize
-    requires { (is_laid manifests ≡ true) × (length (bytes_from manifest_bytes 0 (manifests_of manifests)) ≤ length out.old) }
-    ensures { Put (bytes_from manifest_bytes 0 (manifests_of manifests)) out.old out.new result }
-{
-    let count = manifests.count;
-    let mut at: usize = 0;
-    let mut i: usize = 0;
-    while i < count {
-        let m = manifests.items[i];
-        at += entries::put_manifest(m, &mut out[at..]);
-        i += 1;
-    }
-    at
-}
-
-fn put_holds(holds: Holds, out: &mut [u8]) -> usize
-    requires { (holds.count ≤ limits.holds) × (length (bytes_from hold_bytes 0 (holds_of holds)) ≤ length out.old) }
-    ensures { Put (bytes_from hold_bytes 0 (holds_of holds)) out.old out.new result }
-{
-    let count = holds.count;
-    let mut at: usize = 0;
-    let mut i: usize = 0;
-    while i < count {
-        let x = holds.items[i];
-        at += entries::put_hold(x, &mut out[at..]);
-        i += 1;
-    }
-    at
+    EDITION.put_number(FIRST_EDITION, &mut out[..CLOCK_AT]);
+    CLOCK.put_number(clock, &mut out[CLOCK_AT..COLLECTED_AT]);
+    COLLECTED.put_number(collected, &mut out[COLLECTED_AT..ROWS_AT]);
 }
 
 // Fills the slice with the image.
@@ -123,28 +64,27 @@ fn put_image(ledger: Ledger, out: &mut [u8])
     ensures { out.new ≡ image_of (view ledger) }
 {
     fields::put_head(IMAGE_TAG, out.len() - 3, out);
-    let begin = 3 + ROWS_AT;
-    put_header(ledger.clock, ledger.collected, &mut out[3..begin]);
-    let objects = ledger.objects;
-    let items = objects.items;
-    let kept_at = begin + put_places(items, &mut out[begin..]);
-    let manifests = ledger.manifests;
-    let held_at = kept_at + put_manifests(manifests, &mut out[kept_at..]);
-    let holds = ledger.holds;
-    put_holds(holds, &mut out[held_at..]);
+    let mut at = 3 + ROWS_AT;
+    put_header(ledger.clock, ledger.collected, &mut out[3..at]);
+    at += put_rows(&ledger.objects.items, &mut out[at..]);
+    at += put_rows(
+        &ledger.manifests.items[..ledger.manifests.count],
+        &mut out[at..],
+    );
+    put_rows(&ledger.holds.items[..ledger.holds.count], &mut out[at..]);
 }
 
 // Writes a sound ledger's image at the start of `out`; the bytes beyond it stay. Where it refuses nothing is written.
-pub fn write_image(ledger: Ledger, out: &mut [u8]) -> ImageWrite
+pub fn write_image(ledger: Ledger, out: &mut [u8]) -> Result<usize, SaveError>
     ensures { writing_of ledger out.old ≡ record { answer = result; buffer = out.new } }
 {
     if !ledger.is_sound() {
-        return ImageWrite::Unsound;
+        return Err(SaveError::Unsound);
     }
     let size = size_of(ledger);
     if out.len() < size {
-        return ImageWrite::Full;
+        return Err(SaveError::Full);
     }
     put_image(ledger, &mut out[..size]);
-    ImageWrite::Written(size)
+    Ok(size)
 }

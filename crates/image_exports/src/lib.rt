@@ -2,33 +2,22 @@
 #![tactic(auto)]
 
 ghost use Rattle.std.specs.Prelude.{◌≡◌};
-ghost use Rattle.image.specs.Reading.{read_code};
 ghost use Rattle.image.specs.Writing.{write_code};
 ghost use Rattle.image_exports.specs.Calls.{write_image, read_image};
 
-use exports::{FULL, MALFORMED, NO_PLACE, NOT_SOUND};
-use image::{ImageWrite, Reading};
+use exports::{FULL, NO_PLACE, NOT_SOUND};
+use image::SaveError;
+use ledger::Ledger;
 use ledger_numbers::LEDGER;
 
 // The bytes written, or the refusal's number.
-fn write_code(w: ImageWrite) -> u64
-    ensures { result ≡ write_code w }
+fn write_code(written: Result<usize, SaveError>) -> u64
+    ensures { result ≡ write_code written }
 {
-    match w {
-        ImageWrite::Written(n) => n as u64,
-        ImageWrite::Unsound => NOT_SOUND,
-        ImageWrite::Full => FULL,
-    }
-}
-
-// 0 for an image that was read, or the refusal's number.
-fn read_code(reading: Reading) -> u64
-    ensures { result ≡ read_code reading }
-{
-    match reading {
-        Reading::Read => 0,
-        Reading::Unsound => NOT_SOUND,
-        Reading::Malformed => MALFORMED,
+    match written {
+        Ok(n) => n as u64,
+        Err(SaveError::Unsound) => NOT_SOUND,
+        Err(SaveError::Full) => FULL,
     }
 }
 
@@ -50,9 +39,10 @@ pub fn cuudhaqil_read_image(image: &[u8], ledger: &mut [u64]) -> u64
     if ledger.len() < LEDGER {
         return NO_PLACE;
     }
-    let read = image::read_image(image);
-    let said = read.ledger;
-    ledger_numbers::put_ledger(said, &mut ledger[0..LEDGER]);
-    let reading = read.reading;
-    read_code(reading)
+    let (said, code) = match image::read_image(image) {
+        Ok(read) => (read, 0),
+        Err(e) => (Ledger::fresh(), e.number()),
+    };
+    ledger_numbers::put_ledger(said, &mut ledger[..LEDGER]);
+    code
 }

@@ -8,6 +8,7 @@ use native.Mathlib.Omega.{arith}
 use lib.Dec.{ltb}
 use lib.ListN.{length, get_or, get_or-eq_default}
 use borrow.Author.Tests.{ltb-true, ltb-false}
+use Rattle.std.specs.Prelude.{Result}
 use Rattle.rules.specs.Lists.{all}
 use Rattle.rules.specs.Request.{Ask}
 use Rattle.rules.specs.State.{fresh}
@@ -18,7 +19,7 @@ use Rattle.ledger.specs.Ledger.{lay, view}
 use Rattle.ledger.specs.Demand3.{kept_after, ledger_after}
 use Rattle.ledger.proofs.SoundLaw.{view-lay}
 use Rattle.ledger.proofs.Demand3.{delivered}
-use Rattle.image.specs.declared.ImageRead.{ImageRead}
+use Rattle.image.specs.declared.LoadError.{LoadError}
 use Rattle.image.specs.Image.{image_of}
 use Rattle.image.specs.Reading.{read_of}
 use Rattle.image_history.specs.AfterLoad.{Event, asks, saves, loads, Kept, loaded, done, Path, walked, kept_all, path_all, at_start, no_steps, ask_fits, event_fits, AfterLoad}
@@ -66,11 +67,11 @@ said qs = (delivered qs).laid
 load : (b : List ℕ) (qs : List Ask) (old : Ledger) → Image b qs → loaded (read_of b) old ≡ ledger_after (lay fresh) qs
 load b qs old i =
     ap (λ (c : List ℕ). loaded (read_of c) old) i.bytes
-    ∙ ap (λ (r : ImageRead). loaded r old) (reads_written_lem (ledger_of qs) (delivered qs).whole.is_sound (asked-fits qs i.fits)) ∙ sym (said qs)
+    ∙ ap (λ (r : Result Ledger LoadError). loaded r old) (reads_written_lem (ledger_of qs) (delivered qs).whole.is_sound (asked-fits qs i.fits)) ∙ sym (said qs)
 
 -- where no image is, the ledger stays
 no_load : (old : Ledger) → loaded (read_of []) old ≡ old
-no_load old = ap (λ (r : ImageRead). loaded r old) (not-whole [] refl)
+no_load old = ap (λ (r : Result Ledger LoadError). loaded r old) (not-whole [] refl)
 
 -- the ledger is that of the path, so is each image, and what was asked fits
 record Agrees (k : Kept) (p : Path) : Type 0 where

@@ -1,7 +1,8 @@
 -- Saved and loaded ledgers (document 02, request 6): "After a load, even of an older ledger, the third demand's history is the one that led to the image,
 -- then the steps after it." Claimed of every sequence of steps, saves and loads from the fresh ledger on; proved in proofs/AfterLoad.antt.
 -- Assumes nothing.
-use Rattle.std.specs.Prelude.{◌≡◌, Bool, true, cond, List, [], ◌∷◌, ◌++◌, ℕ, ltb, length, get_or}
+use Rattle.std.specs.Prelude.{◌≡◌, Bool, true, cond, List, [], ◌∷◌, ◌++◌, ℕ, ltb, length, get_or, Result}
+use Rattle.std.specs.Result.{result_unwrap_or}
 use Rattle.rules.specs.Lists.{all}
 use Rattle.rules.specs.Request.{Request, Asked, Unreadable, Ask}
 use Rattle.rules.specs.State.{fresh}
@@ -10,9 +11,7 @@ use Rattle.records.specs.RoundTrip.{all_fit}
 use Rattle.ledger.specs.declared.Ledger.{Ledger}
 use Rattle.ledger.specs.Ledger.{lay, view}
 use Rattle.ledger.specs.Demand3.{kept_after, ledger_after, Delivered}
-use Rattle.image.specs.declared.Reading.{Reading}
-use Rattle.image.specs.declared.Reading.TheVariants.{Read, Unsound, Malformed}
-use Rattle.image.specs.declared.ImageRead.{ImageRead}
+use Rattle.image.specs.declared.LoadError.{LoadError}
 use Rattle.image.specs.Image.{image_of}
 use Rattle.image.specs.Reading.{read_of}
 
@@ -29,13 +28,8 @@ pub record Kept : Type 0 where
   pub images : List (List ℕ)
 
 -- the ledger that was read, or the one that was there where the reader refuses
-abbrev pub taken_by : Reading → Ledger → Ledger → Ledger
-taken_by Read l old = l
-taken_by Unsound l old = old
-taken_by Malformed l old = old
-
-abbrev pub loaded : ImageRead → Ledger → Ledger
-loaded r old = taken_by r.reading r.ledger old
+abbrev pub loaded : Result Ledger LoadError → Ledger → Ledger
+loaded r old = result_unwrap_or r old
 
 abbrev pub done : Event → Kept → Kept
 done (asks a) k = record { ledger = kept_after k.ledger a; images = k.images }

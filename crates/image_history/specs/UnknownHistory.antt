@@ -1,6 +1,6 @@
 -- An image of unknown history (document 02, request 6): "only this holds: collection exact by the ledger's words, no listed object missing". Claimed of
 -- every sound ledger and of all that it becomes; proved in proofs/UnknownHistory.antt. Assumes nothing.
-use Rattle.std.specs.Prelude.{◌≡◌, true, ◌&&◌, List, ℕ, ◌≤◌, eqb}
+use Rattle.std.specs.Prelude.{◌≡◌, true, ◌&&◌, List, ℕ, ◌≤◌, eqb, Ok}
 use Rattle.rules.specs.declared.Kind.TheVariants.{Collect as COLLECT}
 use Rattle.rules.specs.declared.Answer.TheVariants.{Collected}
 use Rattle.rules.specs.Lists.{any, has, rising_above}
@@ -14,7 +14,6 @@ use Rattle.ledger.specs.declared.Ledger.{Ledger}
 use Rattle.ledger.specs.Ledger.{view, is_sound}
 use Rattle.ledger.specs.SoundLaw.{Whole}
 use Rattle.ledger.specs.Demand3.{ledger_after}
-use Rattle.image.specs.declared.Reading.TheVariants.{Read}
 use Rattle.image.specs.Reading.{read_of}
 
 pub record ByWords (s : State) : Type 0 where
@@ -35,4 +34,4 @@ pub record UnknownHistory : Type 0 where
   -- any sound ledger, with any steps asked of it
   pub sound : (l : Ledger) → Whole l → is_sound l ≡ true → (asks : List Ask) → Unknown l asks
   -- so any ledger that is read from bytes
-  pub loaded : (bs : List ℕ) (l : Ledger) → read_of bs ≡ record { reading = Read; ledger = l } → (asks : List Ask) → Unknown l asks
+  pub loaded : (bs : List ℕ) (l : Ledger) → read_of bs ≡ Ok l → (asks : List Ask) → Unknown l asks

@@ -1,21 +1,10 @@
 -- Laws of numbers laid over the start of others. Assumes nothing.
-use mathlib.Core.Path.{◌≡◌, refl, ap}
+use mathlib.Core.Path.{◌≡◌, refl}
 use mathlib.Core.List.{List, [], ◌∷◌, append-nil}
-use Prim.Native.Nat.{ℕ, zero, suc, ◌+◌, ◌≤◌, ◌<◌}
-use native.Mathlib.Numerals.{add-one}
+use Prim.Native.Nat.{ℕ, ◌≤◌}
 use native.Mathlib.Omega.{arith}
-use lib.ListN.{length, take, set, get_or, drop_of_length-le}
+use lib.ListN.{length, set, drop_of_length-le}
 use Rattle.fields.specs.Fields.{over}
-
--- one number more
-pub over-suc : (from to : List ℕ) (i : ℕ) → i < length from → length from ≤ length to → set (over (take i from) to) i (get_or from i 0) ≡ over (take (suc i) from) to
-over-suc [] to i h room = absurd (omega arith)
-over-suc (x ∷ from) [] i h room = absurd (omega arith)
-over-suc (x ∷ from) (y ∷ to) zero h room = refl
-over-suc (x ∷ from) (y ∷ to) (suc i) h room = ap (x ∷◌) (over-suc from to i (omega arith) (omega arith))
-
-pub over-next : (from to : List ℕ) (i : ℕ) → i < length from → length from ≤ length to → set (over (take i from) to) i (get_or from i 0) ≡ over (take (i + 1) from) to
-over-next from to i h room = rw add-one (over-suc from to i h room)
 
 -- over no more than their own room they are all there is
 pub over-all : (from to : List ℕ) → length to ≤ length from → over from to ≡ from

@@ -1,89 +1,78 @@
 -- Laws of a ledger's places as numbers, over what a place is and how many numbers it has. Assumes nothing.
-use mathlib.Core.Path.{◌≡◌, refl, sym, ap, ◌∙◌}
-use mathlib.Core.Bool.{Bool, true, false}
+use mathlib.Core.Path.{◌≡◌, refl, sym, ap, ap₂, subst, ◌∙◌}
+use mathlib.Core.Bool.{Bool, ◌&&◌}
 use mathlib.Core.List.{List, [], ◌∷◌, ◌++◌, append_assoc, append-nil}
-use Prim.Native.Nat.{ℕ, suc, ◌+◌, ◌-◌, ◌*◌, ◌≤◌, ◌<◌}
-use native.Mathlib.Nat.{mul-suc}
+use Prim.Native.Nat.{ℕ, zero, suc, ◌+◌, ◌*◌, ◌≤◌, ◌<◌}
+use native.Mathlib.Nat.{mul-zero, mul-suc, suc-mul, zero-add}
 use native.Mathlib.Numerals.{add-one}
 use native.Mathlib.Omega.{arith}
 use lib.ListN.{length, get_or, take, drop, set, drop_of_length-le, length-append, length-drop}
-use lib.Seq.{take_all, take-suc-set, append_snoc, drop-cons, drop-drop, length-take-le, set_at, take_at, drop_at}
+use lib.Seq.{take_all, drop-cons, drop-drop, length-take-le, set_at, take_at, drop_at}
 use Rattle.fields.specs.Fields.{over}
 use Rattle.rules.specs.Lists.{conj}
+use denote.Param.Members.{Mut}
+use Rattle.std.specs.Array.{IsFromFnResult, IsFromFnResultFrom}
+use Rattle.std.specs.Fn.{Called}
+use Rattle.std.proofs.lemmas.List.{take_more, drop-take}
+use Rattle.std.specs.List.{list_all}
+use Rattle.std.specs.Simd.{first_chunks}
 use Rattle.fields.proofs.Bytes.{take_next}
 use Rattle.ledger_numbers.specs.Numbers.{each, flat}
-use Rattle.ledger_numbers.proofs.Over.{over-all}
 
 next_place : (size i : ℕ) → size * i + size ≡ size * (i + 1)
 next_place size i = rw add-one (sym (mul-suc size i))
 
 -- In
 
--- the places from i on begin with the one at i
-each_from : {A : Type 0} (f : List ℕ → A) (size k i : ℕ) (v : List ℕ) → i < k → each f size (k - i) (drop (size * i) v) ≡ f (drop (size * i) v) ∷ each f size (k - (i + 1)) (drop (size * (i + 1)) v)
-unfolding each
-each_from f size k i v h =
-    let more : k - i ≡ suc (k - (i + 1)) = omega arith in
-    rw (more, drop-drop size (size * i) v, next_place size i)
+-- an array that calls made, each from a place's numbers on, where no call changes what the closure keeps
+module _ {F A : Type 0} {g : Mut F (ℕ × Unit {0}) A} {f : F} (items : List A) (said : List ℕ → A) (size : ℕ) (v : List ℕ) (call : (i : ℕ) (x : A) (q : F) → Called g f (i, tt) x q → (q ≡ f) × (x ≡ said (drop (size * i) v))) where
+  made-from : (i n : ℕ) → length items ≡ i + n → IsFromFnResultFrom g f items i n → drop i items ≡ each said size n (drop (size * i) v)
+  unfolding each
+  made-from i zero long r = drop_of_length-le items (omega arith)
+  made-from i (suc n) long (q, x, at, called, r) =
+      let one = call i x q called in
+      let rest = made-from (i + 1) n (omega arith) (subst (λ p. IsFromFnResultFrom g p items (i + 1) n) one.0 r) in
+      drop-cons items i x (omega arith)
+      ∙ ap₂ ◌∷◌ (at.0 ∙ one.1) (rw (← add-one, rest, ← next_place, ← drop-drop))
 
-each_end : {A : Type 0} (f : List ℕ → A) (size k i : ℕ) (v : List ℕ) → k ≤ i → each f size (k - i) v ≡ []
-unfolding each
-each_end f size k i v h =
-    let none : k - i ≡ 0 = omega arith in
-    rw none
+  pub each-made : {k : ℕ} → IsFromFnResult g f items k → items ≡ each said size k v
+  each-made {k} r = made-from 0 k (r.long ∙ sym (zero-add k)) r.each ∙ rw mul-zero
 
--- one place more
-pub each_next : {A : Type 0} (f : List ℕ → A) (size k i : ℕ) (v : List ℕ) (items : List A) (x : A) → i < k → length items ≡ k → x ≡ f (take (length v - size * i) (drop (size * i) v)) → take i items ++ each f size (k - i) (drop (size * i) v) ≡ each f size k v → take (i + 1) (set items i x) ++ each f size (k - (i + 1)) (drop (size * (i + 1)) v) ≡ each f size k v
-each_next {A} f size k i v items x h long e inv =
-    let all : take (length v - size * i) (drop (size * i) v) ≡ drop (size * i) v = take_all (length v - size * i) (drop (size * i) v) (omega (arith, length-drop (size * i) v)) in
-    let there : x ≡ f (drop (size * i) v) = rw all at e in
-    let filled : take (i + 1) (set items i x) ≡ take i items ++ x ∷ [] = rw add-one (take-suc-set items i x (omega (arith, h, long))) in
-    rw (filled, append_snoc (take i items) x, there) (rw (each_from f size k i v h) at inv)
-
-pub each-done : {A : Type 0} (f : List ℕ → A) (size k i : ℕ) (v : List ℕ) (items : List A) → k ≤ i → length items ≡ k → take i items ++ each f size (k - i) (drop (size * i) v) ≡ each f size k v → items ≡ each f size k v
-each-done f size k i v items h long inv =
-    rw (each_end f size k i (drop (size * i) v) h, append-nil, take_all i items (omega (arith, h, long))) at inv
-
--- a test of every place, from i on: the place at i passes it or not, or none is left
-module _ (p : List ℕ → Bool) (size k i : ℕ) (v : List ℕ) where
-  abbrev part : List ℕ
-  part = take (length v - size * i) (drop (size * i) v)
-
-  part-all : part ≡ drop (size * i) v
-  part-all = take_all (length v - size * i) (drop (size * i) v) (omega (arith, length-drop (size * i) v))
-
-  pub all_hit : i < k → p part ≡ true → conj (each p size (k - i) (drop (size * i) v)) ≡ conj (each p size (k - (i + 1)) (drop (size * (i + 1)) v))
-  unfolding conj
-  all_hit h e = rw (each_from p size k i v h, sym (ap p part-all) ∙ e)
-
-  pub all-miss : i < k → p part ≡ false → conj (each p size (k - i) (drop (size * i) v)) ≡ false
-  unfolding conj
-  all-miss h e = rw (each_from p size k i v h, sym (ap p part-all) ∙ e)
-
-  pub all-over : k ≤ i → conj (each p size (k - i) (drop (size * i) v)) ≡ true
-  unfolding conj
-  all-over h = rw (each_end p size k i (drop (size * i) v) h)
+-- a test of every place, which reads no more than the place
+pub all-chunks : (p : List ℕ → Bool) (size : ℕ) → ((n : ℕ) (w : List ℕ) → size ≤ n → p (take n w) ≡ p w) → (k : ℕ) (v : List ℕ) → list_all p (first_chunks size k (take (k * size) v)) ≡ conj (each p size k v)
+unfolding each conj
+all-chunks p size own zero v = refl
+all-chunks p size own (suc k) v =
+    let all : suc k * size ≡ size + k * size = omega (arith, suc-mul k size) in
+    let cut = take (suc k * size) v in
+    let rest : drop size cut ≡ take (k * size) (drop size v) = rw all (drop-take size (k * size) v) in
+    ap₂ ◌&&◌ (own size cut (omega arith) ∙ own (suc k * size) v (omega arith))
+    (rw rest (all-chunks p size own k (drop size v)))
 
 -- Out
 
-flat-from : {A : Type 0} (f : A → List ℕ) (l : List A) (i : ℕ) (d : A) → i < length l → flat f (drop i l) ≡ f (get_or l i d) ++ flat f (drop (i + 1) l)
+flat-append : {A : Type 0} (f : A → List ℕ) (xs ys : List A) → flat f (xs ++ ys) ≡ flat f xs ++ flat f ys
 unfolding flat
-flat-from f l i d h = rw (add-one, drop-cons l i d h)
+flat-append f [] ys = refl
+flat-append f (x ∷ xs) ys = ap (f x ++◌) (flat-append f xs ys) ∙ sym (append_assoc (f x) (flat f xs) (flat f ys))
 
-flat_end : {A : Type 0} (f : A → List ℕ) (l : List A) (i : ℕ) → length l ≤ i → flat f (drop i l) ≡ []
-unfolding flat
-flat_end f l i h = rw (drop_of_length-le l h)
+-- what is written of the items before any, after one more, and after all
+module _ {A : Type 0} (f : A → List ℕ) (size : ℕ) (items : List A) (out : List ℕ) where
+  pub flat-none : take (size * 0) out ≡ flat f []
+  unfolding flat
+  flat-none = rw mul-zero
 
--- one place more, in its part of the numbers
-pub flat-next : {A : Type 0} (f : A → List ℕ) (size i : ℕ) (l : List A) (d : A) (out part ys : List ℕ) (rest : List ℕ) → i < length l → size * i ≤ length out → length (f (get_or l i d)) ≡ size → length part ≤ size → ys ≡ over (f (get_or l i d)) part → take (size * i) out ++ flat f (drop i l) ≡ flat f l → take (size * (i + 1)) (take (size * i) out ++ (ys ++ rest)) ++ flat f (drop (i + 1) l) ≡ flat f l
-flat-next f size i l d out part ys rest h room long fits e inv =
-    let x = f (get_or l i d) in
-    let put : ys ≡ x = e ∙ over-all x part (omega (arith, fits, long)) in
-    let ends : length (take (size * i) out) + length x ≡ size * (i + 1) = omega (arith, length-take-le (size * i) out room, long, next_place size i) in
-    rw (put, take_next (take (size * i) out) x rest (size * (i + 1)) ends, append_assoc) (rw (flat-from f l i d h) at inv)
+  pub flat-next : (i : ℕ) (x : A) (ys rest : List ℕ) → i < length items → x ≡ get_or items i x → size * i ≤ length out → ys ≡ f x → length ys ≡ size → take (size * i) out ≡ flat f (take i items)
+      → take (size * (i + 1)) (take (size * i) out ++ (ys ++ rest)) ≡ flat f (take (i + 1) items)
+  unfolding flat
+  flat-next i x ys rest h at room put long inv =
+      let all = take_more items i x h ∙ ap (λ (y : A). take i items ++ (y ∷ [])) (sym at) in
+      let ends : length (take (size * i) out) + length ys ≡ size * (i + 1) = omega (arith, length-take-le (size * i) out room, long, next_place size i) in
+      take_next (take (size * i) out) ys rest (size * (i + 1)) ends
+      ∙ rw (all, flat-append, append-nil, inv, put)
 
-pub flat-done : {A : Type 0} (f : A → List ℕ) (size i : ℕ) (l : List A) (out : List ℕ) → length l ≤ i → length out ≤ size * i → take (size * i) out ++ flat f (drop i l) ≡ flat f l → out ≡ flat f l
-flat-done f size i l out h fits inv = rw (flat_end f l i h, append-nil, take_all (size * i) out fits) at inv
+  pub flat-done : (i : ℕ) → length items ≤ i → length out ≤ size * i → take (size * i) out ≡ flat f (take i items) → out ≡ flat f items
+  flat-done i h fits inv = rw (take_all (size * i) out fits, take_all i items h) at inv
 
 -- a part behind others, written
 part_at : (p q : List ℕ) (a k : ℕ) (ys : List ℕ) → length p ≡ a → take a (p ++ q) ++ (ys ++ drop k (drop a (p ++ q))) ≡ p ++ (ys ++ drop k q)
@@ -109,11 +98,11 @@ lying_one {out} {p} {now} {k} n l h = record {
   room = omega arith;
 }
 
--- a part behind them
-pub lying_part : {out p now ys xs : List ℕ} {k : ℕ} (j : ℕ) → Lying out p k now → ys ≡ xs → length ys ≡ j → k + j ≤ length out → Lying out (p ++ xs) (k + j) (take k now ++ (ys ++ drop j (drop k now)))
+-- a part behind them, as long as the place that is lent for it
+pub lying_part : {out p now ys xs : List ℕ} {k : ℕ} (j : ℕ) → Lying out p k now → ys ≡ xs → length ys ≡ length (take j (drop k now)) → k + j ≤ length out → Lying out (p ++ xs) (k + j) (take k now ++ (ys ++ drop j (drop k now)))
 lying_part {out} {p} {now} {ys} {xs} {k} j l e long h = record {
   same = ap (λ (o : List ℕ). take k o ++ (ys ++ drop j (drop k o))) l.same ∙ part_at p (drop k out) k j ys l.many ∙ rw (e, drop-drop, append_assoc);
-  many = length-append p xs ∙ omega (arith, ap length e, long, l.many);
+  many = length-append p xs ∙ omega (arith, ap length e, long, length-take-le j (drop k now) (omega (arith, length-drop k now, lying_long l)), l.many);
   room = h;
 }
 

@@ -1,7 +1,7 @@
 // A ledger as numbers, for callers that see no struct: as many as LEDGER, in the order that include/cuudhaqil.h has.
 #![tactic(auto)]
 
-ghost use Rattle.std.specs.Prelude.{◌≡◌, ◌*◌, ◌≤◌, length};
+ghost use Rattle.std.specs.Prelude.{◌≡◌, ℕ, List, ◌+◌, ◌*◌, ◌≤◌, length, drop};
 ghost use Rattle.rules.specs.Limits.{limits, manifest_limit};
 ghost use Rattle.rules.specs.Lists.{conj};
 ghost use Rattle.fields.specs.Fields.{over};
@@ -12,6 +12,7 @@ use ledger::Ledger;
 use manifests::{KeptManifest, Manifests};
 use objects::Objects;
 use rules::{Hold, Object, Role, WORDS};
+use std::array;
 
 // How many numbers an object, a manifest and a hold have; a manifest's names stand behind the others.
 pub const OBJECT: usize = 5;
@@ -26,7 +27,7 @@ pub const HOLD: usize = 3;
 // count of manifests and their places, the count of holds and theirs.
 pub const OCCUPANCY_AT: usize = 2;
 
-pub const OBJECTS_AT: usize = OCCUPANCY_AT + rules::WORDS;
+pub const OBJECTS_AT: usize = OCCUPANCY_AT + WORDS;
 
 pub const KEPT_AT: usize = OBJECTS_AT + Ledger::PLACES * OBJECT;
 
@@ -37,7 +38,7 @@ pub const HELD_AT: usize = MANIFESTS_AT + Ledger::MANIFESTS * MANIFEST;
 pub const HOLDS_AT: usize = HELD_AT + 1;
 
 // The largest number of 16 bits, which a currency has.
-const LARGEST_CURRENCY: u64 = 65535;
+const LARGEST_CURRENCY: u64 = u16::MAX as u64;
 
 // How many numbers a ledger has.
 pub const LEDGER: usize = HOLDS_AT + Ledger::HOLDS * HOLD;
@@ -47,11 +48,7 @@ pub fn fill(from: &[u64], to: &mut [u64])
     requires { length from.now ≤ length to.old }
     ensures { to.new ≡ over from.now to.old }
 {
-    let mut i = 0;
-    while i < from.len() {
-        to[i] = from[i];
-        i += 1;
-    }
+    to[..from.len()].copy_from_slice(from);
 }
 
 pub fn role_number(role: Role) -> u64
@@ -63,125 +60,132 @@ pub fn role_number(role: Role) -> u64
     }
 }
 
-// In
-
 fn role_from(n: u64) -> Role
     ensures { result ≡ role_from n }
 {
     if n == 0 {
-        return Role::Writer;
-    }
-    Role::Compactor
-}
-
-fn object_from(v: &[u64]) -> Object
-    requires { object_size ≤ length v.now }
-    ensures { result ≡ object_from v.now }
-{
-    let number = v[0];
-    let role = role_from(v[1]);
-    let epoch = v[2];
-    let currency = (v[3] % 65536) as u16;
-    let named = v[4] != 0;
-    Object {
-        number,
-        role,
-        epoch,
-        currency,
-        named,
+        Role::Writer
+    } else {
+        Role::Compactor
     }
 }
 
-fn object_items(v: &[u64]) -> [Object; Ledger::PLACES]
-    requires { limits.places * object_size ≤ length v.now }
-    ensures { result ≡ each object_from object_size limits.places v.now }
-{
-    let zero = Object {
-        number: 0,
-        role: Role::Writer,
-        epoch: 0,
-        currency: 0,
-        named: false,
-    };
-    let mut items = [zero; Ledger::PLACES];
-    let mut i: usize = 0;
-    while i < Ledger::PLACES {
-        items[i] = object_from(&v[OBJECT * i..]);
-        i += 1;
-    }
-    items
+// A part of a ledger that stands as SIZE numbers: any that many say one, and each has its own.
+trait Numbers {
+    ghost SIZE: { ℕ };
+
+    ghost said: { List ℕ → Self };
+
+    ghost numbers: { Self → List ℕ };
+
+    const SIZE: usize;
+
+    fn from_numbers(v: &[u64]) -> Self
+        requires { SIZE ≤ length v.now }
+        ensures { result ≡ said v.now };
+
+    fn put(&self, out: &mut [u64])
+        requires { length out.old ≡ SIZE }
+        ensures { out.new ≡ numbers self.now };
 }
 
-fn manifest_from(v: &[u64]) -> KeptManifest
-    requires { manifest_size ≤ length v.now }
-    ensures { result ≡ manifest_from v.now }
-{
-    let mut names = [0u64; Ledger::NAMES];
-    fill(&v[NAMES_AT..MANIFEST], &mut names);
-    let number = v[0];
-    let writer = v[1];
-    let compactor = v[2];
-    let count = v[3] as usize;
-    KeptManifest {
-        number,
-        writer,
-        compactor,
-        count,
-        names,
-    }
-}
+impl Numbers for Object {
+    ghost SIZE = { object_size };
 
-fn manifest_items(v: &[u64]) -> [KeptManifest; Ledger::MANIFESTS]
-    requires { manifest_limit limits * manifest_size ≤ length v.now }
-    ensures { result ≡ each manifest_from manifest_size (manifest_limit limits) v.now }
-{
-    let names = [0u64; Ledger::NAMES];
-    let zero = KeptManifest {
-        number: 0,
-        writer: 0,
-        compactor: 0,
-        count: 0,
-        names,
-    };
-    let mut items = [zero; Ledger::MANIFESTS];
-    let mut i: usize = 0;
-    while i < Ledger::MANIFESTS {
-        items[i] = manifest_from(&v[MANIFEST * i..]);
-        i += 1;
-    }
-    items
-}
+    ghost said = { object_from };
 
-fn hold_from(v: &[u64]) -> Hold
-    requires { hold_size ≤ length v.now }
-    ensures { result ≡ hold_from v.now }
-{
-    let number = v[0];
-    let manifest = v[1];
-    let expiry = v[2];
-    Hold {
-        number,
-        manifest,
-        expiry,
+    ghost numbers = { object_numbers };
+
+    const SIZE: usize = OBJECT;
+
+    fn from_numbers(v: &[u64]) -> Self {
+        Object {
+            number: v[0],
+            role: role_from(v[1]),
+            epoch: v[2],
+            currency: (v[3] % (LARGEST_CURRENCY + 1)) as u16,
+            named: v[4] != 0,
+        }
+    }
+
+    fn put(&self, out: &mut [u64]) {
+        out[0] = self.number;
+        out[1] = role_number(self.role);
+        out[2] = self.epoch;
+        out[3] = u64::from(self.currency);
+        out[4] = u64::from(self.named);
     }
 }
 
-fn hold_items(v: &[u64]) -> [Hold; Ledger::HOLDS]
-    requires { limits.holds * hold_size ≤ length v.now }
-    ensures { result ≡ each hold_from hold_size limits.holds v.now }
-{
-    let zero = Hold {
-        number: 0,
-        manifest: 0,
-        expiry: 0,
-    };
-    let mut items = [zero; Ledger::HOLDS];
-    let mut i: usize = 0;
-    while i < Ledger::HOLDS {
-        items[i] = hold_from(&v[HOLD * i..]);
-        i += 1;
+impl Numbers for KeptManifest {
+    ghost SIZE = { manifest_size };
+
+    ghost said = { manifest_from };
+
+    ghost numbers = { manifest_numbers };
+
+    const SIZE: usize = MANIFEST;
+
+    fn from_numbers(v: &[u64]) -> Self {
+        let mut names = [0; Ledger::NAMES];
+        names.copy_from_slice(&v[NAMES_AT..MANIFEST]);
+        KeptManifest {
+            number: v[0],
+            writer: v[1],
+            compactor: v[2],
+            count: v[3] as usize,
+            names,
+        }
     }
-    items
+
+    fn put(&self, out: &mut [u64]) {
+        out[0] = self.number;
+        out[1] = self.writer;
+        out[2] = self.compactor;
+        out[3] = self.count as u64;
+        out[NAMES_AT..MANIFEST].copy_from_slice(&self.names);
+    }
+}
+
+impl Numbers for Hold {
+    ghost SIZE = { hold_size };
+
+    ghost said = { hold_from };
+
+    ghost numbers = { hold_numbers };
+
+    const SIZE: usize = HOLD;
+
+    fn from_numbers(v: &[u64]) -> Self {
+        Hold {
+            number: v[0],
+            manifest: v[1],
+            expiry: v[2],
+        }
+    }
+
+    fn put(&self, out: &mut [u64]) {
+        out[0] = self.number;
+        out[1] = self.manifest;
+        out[2] = self.expiry;
+    }
+}
+
+// In
+
+// The item in place i, and all N of them.
+fn item_at<T: Numbers>(v: &[u64], i: usize) -> T
+    requires { T.SIZE * i + T.SIZE ≤ length v.now }
+    ensures { result ≡ T.said (drop (T.SIZE * i) v.now) }
+{
+    T::from_numbers(&v[T::SIZE * i..])
+}
+
+fn items_from<T: Numbers, const N: usize>(v: &[u64]) -> [T; N]
+    requires { N * T.SIZE ≤ length v.now }
+    ensures { result ≡ each T.said T.SIZE N v.now }
+{
+    array::from_fn(|i| item_at(v, i))
 }
 
 // What numbers say that a ledger can be.
@@ -189,73 +193,41 @@ fn ledger_said(v: &[u64]) -> Ledger
     requires { ledger_size ≤ length v.now }
     ensures { result ≡ ledger_said v.now }
 {
-    let mut occupancy = [0u64; WORDS];
-    fill(&v[OCCUPANCY_AT..OBJECTS_AT], &mut occupancy);
-    let places = object_items(&v[OBJECTS_AT..]);
-    let objects = Objects {
-        occupancy,
-        items: places,
-    };
-    let kept = v[KEPT_AT] as usize;
-    let all = manifest_items(&v[MANIFESTS_AT..]);
-    let manifests = Manifests {
-        count: kept,
-        items: all,
-    };
-    let held = v[HELD_AT] as usize;
-    let rest = hold_items(&v[HOLDS_AT..]);
-    let holds = Holds {
-        count: held,
-        items: rest,
-    };
-    let clock = v[0];
-    let collected = v[1];
+    let mut occupancy = [0; WORDS];
+    occupancy.copy_from_slice(&v[OCCUPANCY_AT..OBJECTS_AT]);
     Ledger {
-        clock,
-        collected,
-        objects,
-        manifests,
-        holds,
+        clock: v[0],
+        collected: v[1],
+        objects: Objects {
+            occupancy,
+            items: items_from(&v[OBJECTS_AT..]),
+        },
+        manifests: Manifests {
+            count: v[KEPT_AT] as usize,
+            items: items_from(&v[MANIFESTS_AT..]),
+        },
+        holds: Holds {
+            count: v[HELD_AT] as usize,
+            items: items_from(&v[HOLDS_AT..]),
+        },
     }
 }
 
 // Whether a place can be an object's: its role and its mark are 0 or 1, and its currency has 16 bits.
-fn can_be(v: &[u64]) -> bool
-    requires { object_size ≤ length v.now }
-    ensures { result ≡ can_be v.now }
+#[tactic(auto, unfolding(rules::specs::Lists::conj))]
+fn can_be(place: &[u64; OBJECT]) -> bool
+    ensures { result ≡ can_be place.now }
 {
-    if 1 < v[1] {
-        return false;
-    }
-    if LARGEST_CURRENCY < v[3] {
-        return false;
-    }
-    if 1 < v[4] {
-        return false;
-    }
-    true
+    place[1] <= 1 && place[3] <= LARGEST_CURRENCY && place[4] <= 1
 }
 
-fn places_can_be(v: &[u64]) -> bool
-    requires { limits.places * object_size ≤ length v.now }
-    ensures { result ≡ conj (each can_be object_size limits.places v.now) }
-{
-    let mut i: usize = 0;
-    while i < Ledger::PLACES {
-        if !can_be(&v[OBJECT * i..]) {
-            return false;
-        }
-        i += 1;
-    }
-    true
-}
-
-// Whether the numbers can be a ledger's.
+// Whether the numbers can be a ledger's: every place can be an object's.
 fn is_ledger(v: &[u64]) -> bool
     requires { ledger_size ≤ length v.now }
     ensures { result ≡ is_ledger v.now }
 {
-    places_can_be(&v[OBJECTS_AT..])
+    let (places, _) = v[OBJECTS_AT..KEPT_AT].as_chunks::<OBJECT>();
+    places.iter().all(can_be)
 }
 
 // The fresh ledger without its manifest, which is not sound.
@@ -263,100 +235,34 @@ fn no_manifest() -> Ledger
     ensures { result ≡ no_manifest }
 {
     let mut ledger = Ledger::fresh();
-    let mut manifests = ledger.manifests;
-    manifests.count = 0;
-    ledger.manifests = manifests;
+    ledger.manifests.count = 0;
     ledger
 }
 
 // The ledger that the numbers say. Numbers that no ledger can be are never cut to what it can: they are a ledger that is not
 // sound.
+#[tactic(auto, unfolding(crate::specs::Numbers::ledger_from))]
 pub fn ledger_from(v: &[u64]) -> Ledger
     requires { ledger_size ≤ length v.now }
     ensures { result ≡ ledger_from v.now }
 {
-    if !is_ledger(v) {
-        return no_manifest();
+    if is_ledger(v) {
+        ledger_said(v)
+    } else {
+        no_manifest()
     }
-    ledger_said(v)
 }
 
 // Out
 
-fn flag_number(b: bool) -> u64
-    ensures { result ≡ flag b }
+// The items' numbers, one item behind the other.
+fn put_items<T: Numbers>(items: &[T], out: &mut [u64])
+    requires { length out.old ≡ length items.now * T.SIZE }
+    ensures { out.new ≡ flat T.numbers items.now }
 {
-    if b {
-        return 1;
-    }
-    0
-}
-
-fn object_numbers(o: Object) -> [u64; OBJECT]
-    ensures { result ≡ object_numbers o }
-{
-    let role = o.role;
-    let r = role_number(role);
-    let named = o.named;
-    let m = flag_number(named);
-    [o.number, r, o.epoch, o.currency as u64, m]
-}
-
-fn put_objects(items: [Object; Ledger::PLACES], out: &mut [u64])
-    requires { length out.old ≡ limits.places * object_size }
-    ensures { out.new ≡ flat object_numbers items }
-{
-    let mut i: usize = 0;
-    while i < Ledger::PLACES {
-        let o = items[i];
-        let from = object_numbers(o);
-        fill(&from, &mut out[OBJECT * i..OBJECT * i + OBJECT]);
-        i += 1;
-    }
-}
-
-fn manifest_numbers(m: KeptManifest) -> [u64; MANIFEST]
-    ensures { result ≡ manifest_numbers m }
-{
-    let names = m.names;
-    let mut v = [0u64; MANIFEST];
-    v[0] = m.number;
-    v[1] = m.writer;
-    v[2] = m.compactor;
-    v[3] = m.count as u64;
-    fill(&names, &mut v[NAMES_AT..MANIFEST]);
-    v
-}
-
-fn put_manifests(items: [KeptManifest; Ledger::MANIFESTS], out: &mut [u64])
-    requires { length out.old ≡ manifest_limit limits * manifest_size }
-    ensures { out.new ≡ flat manifest_numbers items }
-{
-    let mut i: usize = 0;
-    while i < Ledger::MANIFESTS {
-        let m = items[i];
-        let from = manifest_numbers(m);
-        fill(&from, &mut out[MANIFEST * i..MANIFEST * i + MANIFEST]);
-        i += 1;
-    }
-}
-
-fn hold_numbers(h: Hold) -> [u64; HOLD]
-    ensures { result ≡ hold_numbers h }
-{
-    [h.number, h.manifest, h.expiry]
-}
-
-fn put_holds(items: [Hold; Ledger::HOLDS], out: &mut [u64])
-    requires { length out.old ≡ limits.holds * hold_size }
-    ensures { out.new ≡ flat hold_numbers items }
-{
-    let mut i: usize = 0;
-    while i < Ledger::HOLDS {
-        let h = items[i];
-        let from = hold_numbers(h);
-        fill(&from, &mut out[HOLD * i..HOLD * i + HOLD]);
-        i += 1;
+    for (i, item) in items.iter().enumerate() {
+        let at = T::SIZE * i;
+        item.put(&mut out[at..at + T::SIZE]);
     }
 }
 
@@ -367,27 +273,21 @@ pub fn put_ledger(ledger: Ledger, out: &mut [u64])
 {
     out[0] = ledger.clock;
     out[1] = ledger.collected;
-    let objects = ledger.objects;
-    let words = objects.occupancy;
-    fill(&words, &mut out[OCCUPANCY_AT..OBJECTS_AT]);
-    let places = objects.items;
-    put_objects(places, &mut out[OBJECTS_AT..KEPT_AT]);
-    let manifests = ledger.manifests;
-    out[KEPT_AT] = manifests.count as u64;
-    let all = manifests.items;
-    put_manifests(all, &mut out[MANIFESTS_AT..HELD_AT]);
-    let holds = ledger.holds;
-    out[HELD_AT] = holds.count as u64;
-    let rest = holds.items;
-    put_holds(rest, &mut out[HOLDS_AT..LEDGER]);
+    out[OCCUPANCY_AT..OBJECTS_AT].copy_from_slice(&ledger.objects.occupancy);
+    put_items(&ledger.objects.items, &mut out[OBJECTS_AT..KEPT_AT]);
+    out[KEPT_AT] = ledger.manifests.count as u64;
+    put_items(&ledger.manifests.items, &mut out[MANIFESTS_AT..HELD_AT]);
+    out[HELD_AT] = ledger.holds.count as u64;
+    put_items(&ledger.holds.items, &mut out[HOLDS_AT..LEDGER]);
 }
 
 // Lays the next ledger's numbers over those that it came from; numbers that no ledger can be stay as they are.
+#[tactic(auto, unfolding(crate::specs::Numbers::laid_back))]
 pub fn lay_back(ledger: Ledger, numbers: &mut [u64])
     requires { ledger_size ≤ length numbers.old }
     ensures { numbers.new ≡ laid_back ledger numbers.old }
 {
     if is_ledger(numbers) {
-        put_ledger(ledger, &mut numbers[0..LEDGER]);
+        put_ledger(ledger, &mut numbers[..LEDGER]);
     }
 }

@@ -10,6 +10,7 @@ use native.Mathlib.Omega.{arith}
 use lib.Dec.{leb}
 use lib.ListN.{length, take, length-append}
 use borrow.Author.Tests.{leb-true, leb-false}
+use Rattle.std.specs.Prelude.{None, Some}
 use Rattle.rules.specs.Lists.{none}
 use Rattle.objects.specs.Objects.{same}
 use Rattle.rules.specs.Step.{longest_verdict}
@@ -26,10 +27,9 @@ use Rattle.replay.proofs.Answers.{answer-fits}
 use Rattle.replay.proofs.Counts.{counted, ends_whole}
 use Rattle.replay.proofs.Cutting.{cut-joined}
 use Rattle.replay.proofs.Struck.{tell-all, room_for_all}
-use Rattle.log_check.specs.declared.Checked.TheVariants.{Agree, Differs}
 use Rattle.log_check.specs.Check.{due, logged, both_whole, compared, checked_of}
 use Rattle.log_check.specs.Exact.{own_log, FirstAt, FirstInBytes, LogChecked}
-use Rattle.log_check.proofs.InBytes.{agreed, index_of, first_in_bytes_lem, bytes-first}
+use Rattle.log_check.proofs.InBytes.{first_in_bytes_lem, bytes-first}
 use Rattle.log_check.proofs.Loop.{checked-found}
 
 -- ---- how a run ends
@@ -69,23 +69,23 @@ due-short l (r ∷ rs) = omega (arith, due-short (leaves l r) rs, answer-fits l 
 
 -- ---- what is found of verdicts
 
-agree_same : (i : ℕ) (vs ws : List (List ℕ)) (b : Bool) → compared i vs ws b ≡ Agree → (vs ≡ ws) × (b ≡ true)
+agree_same : (i : ℕ) (vs ws : List (List ℕ)) (b : Bool) → compared i vs ws b ≡ None → (vs ≡ ws) × (b ≡ true)
 unfolding compared
 agree_same i [] [] true e = (refl, refl)
-agree_same i [] [] false e = absurd (false≢true (ap agreed e))
-agree_same i [] (w ∷ ws) b e = absurd (false≢true (ap agreed e))
-agree_same i (v ∷ vs) [] b e = absurd (false≢true (ap agreed e))
+agree_same i [] [] false e = cc
+agree_same i [] (w ∷ ws) b e = cc
+agree_same i (v ∷ vs) [] b e = cc
 agree_same i (v ∷ vs) (w ∷ ws) b e = step (same v w) refl e (agree_same (suc i) vs ws b)
   where
-    step : (c : Bool) → same v w ≡ c → cond c (compared (suc i) vs ws b) (Differs i) ≡ Agree → (compared (suc i) vs ws b ≡ Agree → (vs ≡ ws) × (b ≡ true))
+    step : (c : Bool) → same v w ≡ c → cond c (compared (suc i) vs ws b) (Some i) ≡ None → (compared (suc i) vs ws b ≡ None → (vs ≡ ws) × (b ≡ true))
         → (v ∷ vs ≡ w ∷ ws) × (b ≡ true)
     step true q e f = (ap₂ ◌∷◌ (same_eq v w q) (f e).0, (f e).1)
-    step false q e f = absurd (false≢true (ap agreed e))
+    step false q e f = cc
 
-same_agree : (i : ℕ) (vs : List (List ℕ)) → compared i vs vs true ≡ Agree
+same_agree : (i : ℕ) (vs : List (List ℕ)) → compared i vs vs true ≡ None
 unfolding compared
 same_agree i [] = refl
-same_agree i (v ∷ vs) = ap (λ (b : Bool). cond b (compared (suc i) vs vs true) (Differs i)) (same_refl v) ∙ same_agree (suc i) vs
+same_agree i (v ∷ vs) = ap (λ (b : Bool). cond b (compared (suc i) vs vs true) (Some i)) (same_refl v) ∙ same_agree (suc i) vs
 
 -- ---- the index
 
@@ -106,8 +106,8 @@ abbrev From : ℕ → ℕ → List (List ℕ) → List (List ℕ) → Bool → T
 From i n vs ws b = (k : ℕ) × (n ≡ i + k) × FirstAt vs ws b k
 
 -- it is at once
-here : (i n : ℕ) (vs ws : List (List ℕ)) (b : Bool) → Differs i ≡ Differs n → At vs ws b 0 → From i n vs ws b
-here i n vs ws b e d = (0, (let q = ap index_of e in omega arith), record { before = refl; in_due = omega arith; in_log = omega arith; differs = d })
+here : (i n : ℕ) (vs ws : List (List ℕ)) (b : Bool) → Some i ≡ Some n → At vs ws b 0 → From i n vs ws b
+here i n vs ws b e d = (0, (let z : i ≡ n = cc in omega arith), record { before = refl; in_due = omega arith; in_log = omega arith; differs = d })
 
 -- behind a verdict that is the same
 module _ (v : List ℕ) (vs ws : List (List ℕ)) (b : Bool) (k : ℕ) where
@@ -135,45 +135,45 @@ module _ (v : List ℕ) (vs ws : List (List ℕ)) (b : Bool) (k : ℕ) where
       on (inl d) = inl (λ q. d (ap (λ (us : List (List ℕ)). v ∷ us) q))
       on (inr d) = inr (omega (arith, d.0), omega (arith, d.1), d.2)
 
-differs-first : (i n : ℕ) (vs ws : List (List ℕ)) (b : Bool) → compared i vs ws b ≡ Differs n → From i n vs ws b
+differs-first : (i n : ℕ) (vs ws : List (List ℕ)) (b : Bool) → compared i vs ws b ≡ Some n → From i n vs ws b
 unfolding compared
-differs-first i n [] [] true e = absurd (true≢false (ap agreed e))
+differs-first i n [] [] true e = cc
 differs-first i n [] [] false e = here i n [] [] false e (inr (refl, refl, refl))
 differs-first i n [] (w ∷ ws) b e = here i n [] (w ∷ ws) b e (inl (λ q. let z = ap length q in omega arith))
 differs-first i n (v ∷ vs) [] b e = here i n (v ∷ vs) [] b e (inl (λ q. let z = ap length q in omega arith))
 differs-first i n (v ∷ vs) (w ∷ ws) b e = step (same v w) refl e (differs-first (suc i) n vs ws b)
   where
-    step : (c : Bool) → same v w ≡ c → cond c (compared (suc i) vs ws b) (Differs i) ≡ Differs n → (compared (suc i) vs ws b ≡ Differs n → From (suc i) n vs ws b) → From i n (v ∷ vs) (w ∷ ws) b
+    step : (c : Bool) → same v w ≡ c → cond c (compared (suc i) vs ws b) (Some i) ≡ Some n → (compared (suc i) vs ws b ≡ Some n → From (suc i) n vs ws b) → From i n (v ∷ vs) (w ∷ ws) b
     step true q e f =
         let r = f e in
         (suc r.0, (let z = r.1 in omega arith), subst (λ (u : List ℕ). FirstAt (v ∷ vs) (u ∷ ws) b (suc r.0)) (same_eq v w q) (first_cons v vs ws b r.0 r.2))
     step false q e f = here i n (v ∷ vs) (w ∷ ws) b e (inl (λ p. true≢false (sym (same_refl v) ∙ ap (same v) (ap head p) ∙ q)))
 
-first-differs : (i k : ℕ) (vs ws : List (List ℕ)) (b : Bool) → FirstAt vs ws b k → compared i vs ws b ≡ Differs (i + k)
+first-differs : (i k : ℕ) (vs ws : List (List ℕ)) (b : Bool) → FirstAt vs ws b k → compared i vs ws b ≡ Some (i + k)
 unfolding compared
 first-differs i zero [] [] b f = by f.differs
   where
-    by : At [] [] b 0 → cond b Agree (Differs i) ≡ Differs (i + 0)
+    by : At [] [] b 0 → cond b None (Some i) ≡ Some (i + 0)
     by (inl d) = absurd (d refl)
-    by (inr d) = ap (λ (c : Bool). cond c Agree (Differs i)) d.2 ∙ ap Differs (sym (add-zero i))
-first-differs i zero [] (w ∷ ws) b f = ap Differs (sym (add-zero i))
-first-differs i zero (v ∷ vs) [] b f = ap Differs (sym (add-zero i))
+    by (inr d) = ap (λ (c : Bool). cond c None (Some i)) d.2 ∙ ap Some (sym (add-zero i))
+first-differs i zero [] (w ∷ ws) b f = ap Some (sym (add-zero i))
+first-differs i zero (v ∷ vs) [] b f = ap Some (sym (add-zero i))
 first-differs i zero (v ∷ vs) (w ∷ ws) b f = step (same v w) refl
   where
     not_same : same v w ≡ true → At (v ∷ vs) (w ∷ ws) b 0 → ⊥
     not_same q (inl d) = d (ap (λ (u : List ℕ). u ∷ []) (same_eq v w q))
     not_same q (inr d) = omega (arith, d.0)
 
-    step : (c : Bool) → same v w ≡ c → cond c (compared (suc i) vs ws b) (Differs i) ≡ Differs (i + 0)
+    step : (c : Bool) → same v w ≡ c → cond c (compared (suc i) vs ws b) (Some i) ≡ Some (i + 0)
     step true q = absurd (not_same q f.differs)
-    step false q = ap Differs (sym (add-zero i))
+    step false q = ap Some (sym (add-zero i))
 first-differs i (suc k) [] ws b f = absurd (omega (arith, f.in_due))
 first-differs i (suc k) (v ∷ vs) [] b f = absurd (omega (arith, f.in_log))
 first-differs i (suc k) (v ∷ vs) (w ∷ ws) b f =
     let q : v ≡ w = ap head f.before in
-    ap (λ (c : Bool). cond c (compared (suc i) vs ws b) (Differs i)) (ap (same v) (sym q) ∙ same_refl v)
+    ap (λ (c : Bool). cond c (compared (suc i) vs ws b) (Some i)) (ap (same v) (sym q) ∙ same_refl v)
     ∙ first-differs (suc i) k vs ws b (first_tail v vs ws b k (subst (λ (u : List ℕ). FirstAt (v ∷ vs) (u ∷ ws) b (suc k)) (sym q) f))
-    ∙ ap Differs (omega arith)
+    ∙ ap Some (omega arith)
 
 -- ---- of a trace and a log
 
@@ -205,7 +205,7 @@ module _ (l : Ledger) (trace log : List ℕ) where
     all-due : (told out).verdicts ≡ due l trace
     all-due = ap (λ (t : Told). t.verdicts) (tell-all (cut trace).records l (length out) (room_for_all (cut trace).records l (length out) whole.0))
 
-    accepted : checked_of l trace log ≡ Agree → log ≡ own_log l trace out
+    accepted : checked_of l trace log ≡ None → log ≡ own_log l trace out
     unfolding checked_of
     accepted a =
         let s = agree_same 0 (due l trace) (logged log) (both_whole trace log) a in
@@ -215,14 +215,14 @@ module _ (l : Ledger) (trace log : List ℕ) where
         ∙ ap flatten (sym s.0 ∙ sym all-due)
         ∙ sym (counted l trace out).written
 
-    accepts : log ≡ own_log l trace out → checked_of l trace log ≡ Agree
+    accepts : log ≡ own_log l trace out → checked_of l trace log ≡ None
     unfolding checked_of none
     accepts q =
         ap (λ (c : Cut). compared 0 (due l trace) c.records (none (cut trace).rest && none c.rest)) (ap cut (q ∙ (counted l trace out).written) ∙ (counted l trace out).readable)
         ∙ ap₂ (λ (vs : List (List ℕ)) (r : List ℕ). compared 0 (due l trace) vs (none r && true)) all-due whole.1
         ∙ same_agree 0 (due l trace)
 
-  torn : (out : List ℕ) → (replay_of l trace out).answer.ending ≡ Torn → checked_of l trace log ≡ Agree → ⊥
+  torn : (out : List ℕ) → (replay_of l trace out).answer.ending ≡ Torn → checked_of l trace log ≡ None → ⊥
   unfolding replay_of checked_of
   torn out e a = true≢false (
       sym (and_left (none (cut trace).rest) (none (cut log).rest) (agree_same 0 (due l trace) (logged log) (both_whole trace log) a).1)
@@ -235,17 +235,17 @@ module _ (l : Ledger) (trace log : List ℕ) where
     (λ h. ap (λ (b : Bool). ending_of b (cut trace).rest) (long_full out h)),
   )
 
-  first : (n : ℕ) → (checked_of l trace log ≡ Differs n) ↔ FirstAt (due l trace) (logged log) (both_whole trace log) n
+  first : (n : ℕ) → (checked_of l trace log ≡ Some n) ↔ FirstAt (due l trace) (logged log) (both_whole trace log) n
   unfolding checked_of
   first n = (
     (λ e. let r = differs-first 0 n (due l trace) (logged log) (both_whole trace log) e in subst (FirstAt (due l trace) (logged log) (both_whole trace log)) (let z = r.1 in omega arith) r.2),
-    (λ f. first-differs 0 n (due l trace) (logged log) (both_whole trace log) f ∙ ap Differs (zero-add n)),
+    (λ f. first-differs 0 n (due l trace) (logged log) (both_whole trace log) f ∙ ap Some (zero-add n)),
   )
 
-  bytes : (n : ℕ) → (checked_of l trace log ≡ Differs n) ↔ FirstInBytes (due l trace) (none (cut trace).rest) log n
+  bytes : (n : ℕ) → (checked_of l trace log ≡ Some n) ↔ FirstInBytes (due l trace) (none (cut trace).rest) log n
   bytes n = (
     (λ e. let r = first_in_bytes_lem 0 n (due l trace) (none (cut trace).rest) log (sym (checked-found l trace log) ∙ e) in subst (FirstInBytes (due l trace) (none (cut trace).rest) log) (let z = r.1 in omega arith) r.2),
-    (λ f. checked-found l trace log ∙ bytes-first 0 n (due l trace) (none (cut trace).rest) log f ∙ ap Differs (zero-add n)),
+    (λ f. checked-found l trace log ∙ bytes-first 0 n (due l trace) (none (cut trace).rest) log f ∙ ap Some (zero-add n)),
   )
 
   pub log_checked : LogChecked l trace log

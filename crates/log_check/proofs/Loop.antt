@@ -2,15 +2,15 @@
 -- Assumes nothing.
 use mathlib.Core.Path.{◌≡◌, refl, sym, ap, subst, ◌∙◌}
 use mathlib.Core.Bool.{Bool, true, false, cond, ◌&&◌}
-use mathlib.Core.List.{List, [], ◌∷◌, flatten}
+use mathlib.Core.List.{List, flatten}
 use Prim.Native.Nat.{ℕ, suc, ◌+◌, ◌-◌, ◌≤◌}
 use native.Mathlib.Numerals.{add-one}
 use native.Mathlib.Omega.{arith}
 use lib.Dec.{ltb, eqb}
 use lib.ListN.{length, take, drop, length-append, length-drop}
 use lib.Seq.{length-take-le, take_all, take-append_seam, drop-drop}
-use denote.Enum.Declared.{tag_of, declared}
 use borrow.Author.Tests.{ltb-true, eq-eqb, ne_eqb}
+use Rattle.std.specs.Prelude.{Option, None, Some}
 use Rattle.fields.specs.declared.Next.{Next}
 use Rattle.fields.specs.declared.Next.TheVariants.{End, Torn, Record}
 use Rattle.fields.specs.Fields.{next_of, over}
@@ -22,7 +22,6 @@ use Rattle.ledger.specs.declared.Ledger.{Ledger}
 use Rattle.replay.specs.declared.Front.{Front}
 use Rattle.replay.specs.declared.Front.TheVariants.{End as AtEnd, Torn as IsTorn, Full, Judged}
 use Rattle.replay.specs.declared.Stepped.{Stepped}
-use Rattle.replay.specs.contracts.Front.{enum}
 use Rattle.replay.specs.Front.{Judgement, answer_bytes, unchanged, judged_with, record_step, step_at, front_step}
 use Rattle.replay.specs.Replay.{Told, Cut, cut_at, cut}
 use Rattle.replay.specs.Struck.{leaves}
@@ -30,14 +29,12 @@ use Rattle.replay.proofs.Answers.{answer-fits}
 use Rattle.replay.proofs.Counts.{Fields, tell-fields}
 use Rattle.replay.proofs.Cutting.{Found, next-found, cut-next}
 use Rattle.replay.proofs.Struck.{tell-all}
-use Rattle.log_check.specs.declared.Checked.{Checked}
-use Rattle.log_check.specs.declared.Checked.TheVariants.{Agree, Differs}
 use Rattle.log_check.specs.Check.{due, checked_of, is_prefix, ended_at}
 use Rattle.log_check.proofs.InBytes.{in_bytes, in_bytes_lem}
 use Rattle.log_check.proofs.Prefix.{prefix_split}
 
 -- what is found from index i on, by the bytes of the log
-abbrev pub found : ℕ → Ledger → List ℕ → List ℕ → Checked
+abbrev pub found : ℕ → Ledger → List ℕ → List ℕ → Option ℕ
 found i l trace log = in_bytes i (due l trace) (none (cut trace).rest) log
 
 -- the verdicts due are fields: those of a run with room for all
@@ -53,16 +50,16 @@ checked-found l trace log = in_bytes_lem 0 (due l trace) (due-fields l trace) (n
 
 -- What is found, by what became of the front of the trace with room for the longest verdict
 abbrev Outcome : ℕ → Ledger → List ℕ → List ℕ → Judgement → Front → Type 0
-Outcome i l bs log j AtEnd = found i l bs log ≡ cond (none log) Agree (Differs i)
-Outcome i l bs log j IsTorn = found i l bs log ≡ Differs i
+Outcome i l bs log j AtEnd = found i l bs log ≡ cond (none log) None (Some i)
+Outcome i l bs log j IsTorn = found i l bs log ≡ Some i
 Outcome i l bs log j Full = ⊥
 Outcome i l bs log j (Judged n k) =
     (3 ≤ n) × (n ≤ length bs) × (k ≤ length j.buffer)
-    × (found i l bs log ≡ cond (is_prefix (take k j.buffer) log) (found (suc i) j.answer.ledger (drop n bs) (drop k log)) (Differs i))
+    × (found i l bs log ≡ cond (is_prefix (take k j.buffer) log) (found (suc i) j.answer.ledger (drop n bs) (drop k log)) (Some i))
 
 module _ (i : ℕ) (l : Ledger) (bs log out : List ℕ) (room : longest_verdict ≤ length out) where
   -- by how the trace is cut
-  abbrev found_by : Cut → Checked
+  abbrev found_by : Cut → Option ℕ
   found_by c = in_bytes i (each leaves answer_bytes l c.records) (none c.rest) log
 
   -- a record of n bytes at the front
@@ -77,14 +74,14 @@ module _ (i : ℕ) (l : Ledger) (bs log out : List ℕ) (room : longest_verdict 
         omega (arith, few, f.0),
         omega (arith, few, f.1),
         omega (arith, length-append v (drop (length v) out)),
-        at ∙ ap (λ (w : List ℕ). cond (is_prefix w log) (found (suc i) next (drop n bs) (drop (length v) log)) (Differs i)) (sym (take-append_seam v (drop (length v) out)))
-            ∙ ap (λ (m : ℕ). cond (is_prefix (take (length v) (over v out)) log) (found (suc i) next (drop m bs) (drop (length v) log)) (Differs i)) (sym few),
+        at ∙ ap (λ (w : List ℕ). cond (is_prefix w log) (found (suc i) next (drop n bs) (drop (length v) log)) (Some i)) (sym (take-append_seam v (drop (length v) out)))
+            ∙ ap (λ (m : ℕ). cond (is_prefix (take (length v) (over v out)) log) (found (suc i) next (drop m bs) (drop (length v) log)) (Some i)) (sym few),
       )
 
   outcome_at : (x : Next) → Found bs x → found i l bs log ≡ found_by (cut_at x bs cut) → Outcome i l bs log (step_at x l bs out) (step_at x l bs out).answer.front
   unfolding record_step each in_bytes
-  outcome_at End f e = e ∙ ap (λ (b : Bool). cond (b && none log) Agree (Differs i)) (sym (length_none bs) ∙ eq-eqb (length bs) 0 f)
-  outcome_at Torn f e = e ∙ ap (λ (b : Bool). cond (b && none log) Agree (Differs i)) (sym (length_none bs) ∙ ne_eqb (length bs) 0 (omega (arith, f)))
+  outcome_at End f e = e ∙ ap (λ (b : Bool). cond (b && none log) None (Some i)) (sym (length_none bs) ∙ eq-eqb (length bs) 0 f)
+  outcome_at Torn f e = e ∙ ap (λ (b : Bool). cond (b && none log) None (Some i)) (sym (length_none bs) ∙ ne_eqb (length bs) 0 (omega (arith, f)))
   outcome_at (Record n) f e = outcome_record n f e (ltb (length out) (length (answer_bytes l (take n bs)))) refl
 
   front_outcome : Outcome i l bs log (front_step l bs out) (front_step l bs out).answer.front
@@ -121,7 +118,7 @@ module _ {l₀ : Ledger} {trace log verdict : List ℕ} {l : Ledger} {read agree
       (front_outcome index l (drop read trace) (drop agreed log) verdict (omega (arith, t.before.room)))
 
   -- no record is judged any more
-  pub at_exit : {x : Checked} → ((n k : ℕ) → r.front ≡ Judged n k → ⊥) → x ≡ ended_at r.front (length log - agreed) index → x ≡ checked_of l₀ trace log
+  pub at_exit : {x : Option ℕ} → ((n k : ℕ) → r.front ≡ Judged n k → ⊥) → x ≡ ended_at r.front (length log - agreed) index → x ≡ checked_of l₀ trace log
   at_exit {x} o e = e ∙ sym (t.before.same ∙ by r.front outcome o)
     where
       left-none : none (drop agreed log) ≡ eqb (length log - agreed) 0
@@ -129,7 +126,7 @@ module _ {l₀ : Ledger} {trace log verdict : List ℕ} {l : Ledger} {read agree
 
       by : (f : Front) → Outcome index l (drop read trace) (drop agreed log) j f → ((n k : ℕ) → f ≡ Judged n k → ⊥)
           → found index l (drop read trace) (drop agreed log) ≡ ended_at f (length log - agreed) index
-      by AtEnd d o = d ∙ ap (λ (b : Bool). cond b Agree (Differs index)) left-none
+      by AtEnd d o = d ∙ ap (λ (b : Bool). cond b None (Some index)) left-none
       by IsTorn d o = d
       by Full d o = absurd d
       by (Judged n k) d o = absurd (o n k refl)
@@ -155,12 +152,12 @@ module _ {l₀ : Ledger} {trace log verdict : List ℕ} {l : Ledger} {read agree
     asked : matches ≡ is_prefix (take k b) (drop agreed log)
     asked = ap (is_prefix (take k b)) (rest-whole agreed log)
 
-    after : (c : Bool) → matches ≡ c → checked_of l₀ trace log ≡ cond c (found (suc index) r.ledger (drop n (drop read trace)) (drop k (drop agreed log))) (Differs index)
+    after : (c : Bool) → matches ≡ c → checked_of l₀ trace log ≡ cond c (found (suc index) r.ledger (drop n (drop read trace)) (drop k (drop agreed log))) (Some index)
     after c e =
         t.before.same ∙ known.3
-        ∙ ap (λ (c : Bool). cond c (found (suc index) r.ledger (drop n (drop read trace)) (drop k (drop agreed log))) (Differs index)) (sym asked ∙ e)
+        ∙ ap (λ (c : Bool). cond c (found (suc index) r.ledger (drop n (drop read trace)) (drop k (drop agreed log))) (Some index)) (sym asked ∙ e)
 
-    pub differs : matches ≡ false → Differs index ≡ checked_of l₀ trace log
+    pub differs : matches ≡ false → Some index ≡ checked_of l₀ trace log
     differs e = sym (after false e)
 
     pub logged-within : matches ≡ true → agreed + k ≤ length log

@@ -1,13 +1,12 @@
 -- What the check of a log finds, of any ledger, trace and log. Proved in proofs/Exact.antt.
 -- Assumes nothing.
-use Rattle.std.specs.Prelude.{◌≡◌, ◌⊎◌, ◌↔◌, Bool, true, false, ℕ, suc, ◌*◌, ◌≤◌, ◌<◌, length, take}
+use Rattle.std.specs.Prelude.{◌≡◌, ◌⊎◌, ◌↔◌, Bool, true, false, ℕ, suc, ◌*◌, ◌≤◌, ◌<◌, length, take, None, Some}
 use mathlib.Core.List.{List, flatten}
 use Rattle.rules.specs.Lists.{none}
 use Rattle.rules.specs.Step.{longest_verdict}
 use Rattle.ledger.specs.declared.Ledger.{Ledger}
 use Rattle.replay.specs.declared.Ending.TheVariants.{Whole, Torn, Full}
 use Rattle.replay.specs.Replay.{cut, replay_of}
-use Rattle.log_check.specs.declared.Checked.TheVariants.{Agree, Differs}
 use Rattle.log_check.specs.Check.{due, logged, both_whole, checked_of, is_prefix}
 
 -- the log that our own run writes into this output
@@ -33,12 +32,12 @@ pub record FirstInBytes (vs : List (List ℕ)) (ends : Bool) (log : List ℕ) (n
 module _ (l : Ledger) (trace log : List ℕ) where
   pub record LogChecked : Type 0 where
     -- "For a trace that ends whole it shall accept exactly the log our own run writes with room enough": a run that ends whole had room enough
-    pub whole : (out : List ℕ) → (replay_of l trace out).answer.ending ≡ Whole → (checked_of l trace log ≡ Agree) ↔ (log ≡ own_log l trace out)
+    pub whole : (out : List ℕ) → (replay_of l trace out).answer.ending ≡ Whole → (checked_of l trace log ≡ None) ↔ (log ≡ own_log l trace out)
     -- "and for a torn trace none"
-    pub torn : (out : List ℕ) → (replay_of l trace out).answer.ending ≡ Torn → checked_of l trace log ≡ Agree → ⊥
+    pub torn : (out : List ℕ) → (replay_of l trace out).answer.ending ≡ Torn → checked_of l trace log ≡ None → ⊥
     -- which room is enough: that of the verdicts due; and the longest verdict for each record is no less
     pub enough : (out : List ℕ) → ((replay_of l trace out).answer.ending ≡ Full) ↔ (length out < length (flatten (due l trace)))
     pub most : length (flatten (due l trace)) ≤ length (cut trace).records * longest_verdict
     -- an index is said exactly where the first disagreement is
-    pub first : (n : ℕ) → (checked_of l trace log ≡ Differs n) ↔ FirstAt (due l trace) (logged log) (both_whole trace log) n
-    pub first_in_bytes : (n : ℕ) → (checked_of l trace log ≡ Differs n) ↔ FirstInBytes (due l trace) (none (cut trace).rest) log n
+    pub first : (n : ℕ) → (checked_of l trace log ≡ Some n) ↔ FirstAt (due l trace) (logged log) (both_whole trace log) n
+    pub first_in_bytes : (n : ℕ) → (checked_of l trace log ≡ Some n) ↔ FirstInBytes (due l trace) (none (cut trace).rest) log n

@@ -8,4 +8,4 @@ use Rattle.desk.proofs.look.Goals as goal
 
 pub returns : goal.returns
 unfolding look_of
-returns c = rw (c.object_of-object.ensures, c.code_of-code.ensures, c.step-answered.ensures, list-asks _ _ [] (omega arith))
+returns c = rw (c.found_in.ensures, c.step-answered.ensures, list-asks _ _ [] (omega arith))

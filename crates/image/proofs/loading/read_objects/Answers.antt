@@ -1,29 +1,30 @@
-use mathlib.Core.Path.{◌≡◌, refl, ap, ◌∙◌}
-use Prim.Native.Nat.{◌-◌}
-use native.Mathlib.Omega.{arith}
-use lib.ListN.{drop, replicate, length-set}
-use Rattle.rules.specs.Limits.{limits}
-use Rattle.records.proofs.Places.{tail}
-use Rattle.image.specs.Reading.{spot_at}
-use Rattle.image.proofs.Filling.{places-none, places-next, places-full, zero-words}
-use Rattle.image.proofs.Spots.{spot_room}
-use Rattle.image.proofs.loading.read_objects.Goals.{After-spot_at-spot}
-use borrow.Author.Rules.{rules}
+use Rattle.std.proofs.Common.{sym}
+use Rattle.image.proofs.Laying.{tail}
+use Rattle.image.proofs.Filling.{places-none, places-free, places-taken, places_objects, places_size}
+use Rattle.image.proofs.loading.read_objects.Goals.{in-Some, in_default}
 use Rattle.image.proofs.loading.read_objects.Goals as goal
 
--- the place that was found is the one of the bytes that are left
-found : (c : After-spot_at-spot) → c.spot_at-spot.result ≡ spot_at c.loop-p.p (drop c.loop-p.at c.args.s.now)
-found c = c.spot_at-spot.ensures ∙ ap (spot_at c.loop-p.p) (tail c.loop-p.at c.args.s.now)
+pub loop-place-init : goal.loop-place-init
+loop-place-init c = places-none c.args.s.now c.args.objects.now c.requires
 
-pub loop-p-init : goal.loop-p-init
-loop-p-init c =
-    (omega arith, search rules, search rules, places-none c.args.s.now (ap (replicate limits.places) c.no_object-items.ensures) zero-words)
-
-pub loop-p-preserved : goal.loop-p-preserved
-loop-p-preserved c =
-    let l = c.loop-p in
+pub loop-place-preserved : goal.loop-place-preserved
+loop-place-preserved c =
+    let l = c.loop-place in
     let s = c.args.s.now in
-    (omega arith, simp length-set l.invariant.1, c.mark-at.auto.words ∙ l.invariant.2, places-next s l.invariant.3 c.spot_at-spot.result c.loop-p-test.true (found (goal.at.loop-p-preserved c).After-spot_at-spot) (spot_room l.p (drop l.at s)) refl c.mark-at.ensures.0 c.mark-at.ensures.1)
+    elim c.match-spot_at.branch [
+      | in-Some w ↦
+          let there = w.in-Some.ensures in
+          let is = sym there.is in
+          let room = there.room in
+          rw (w.at-is, w.objects-is, w.set_bit.ensures)
+          (places-taken s l.invariant c.loop-place-test.true w.in-Some.object (rw (tail l.at s) at is) (rw (tail l.at s) at room))
+      | in_default w ↦
+          let none = sym w.in_default.ensures.is in
+          rw (w.at-is, w.objects-is) (places-free s l.invariant c.loop-place-test.true (rw (tail l.at s) at none))
+    ]
 
-pub returns : goal.returns
-returns c = places-full c.args.s.now c.loop-p.invariant.3 c.loop-p-test.false
+pub returns-clause-objects : goal.returns-clause-objects
+returns-clause-objects c = places_objects c.args.s.now c.loop-place.invariant c.loop-place-test.false
+
+pub returns-clause-size : goal.returns-clause-size
+returns-clause-size c = places_size c.args.s.now c.loop-place.invariant c.loop-place-test.false

@@ -1,122 +1,112 @@
 -- `image::loading::read_rows` meets its contract: each group of rows begins where the one before it ends. Assumes nothing.
-use mathlib.Core.Path.{◌≡◌, ap, ◌∙◌}
-use mathlib.Core.List.{List}
-use Prim.Native.Nat.{ℕ, ◌+◌, ◌≤◌}
-use native.Mathlib.Omega.{arith}
-use lib.Dec.{eqb}
-use lib.ListN.{length, drop, length-drop}
-use Rattle.records.proofs.Places.{tail}
+use Rattle.std.specs.Prelude.{unwrap_or}
+use Rattle.std.proofs.Common.{◌≡◌, ℕ, ◌+◌, List, Some, None, length, drop, replicate, sym, ap, ◌∙◌}
+use borrow.Author.Tests.{ne_eqb}
+use Rattle.rules.specs.Lists.{conj}
 use Rattle.rules.specs.Limits.{limits, manifest_limit}
-use Rattle.rules.proofs.Lists.{conj-true}
-use Rattle.image.specs.declared.ObjectsRead.{ObjectsRead}
-use Rattle.image.specs.declared.ManifestsRead.{ManifestsRead}
-use Rattle.image.specs.declared.HoldsRead.{HoldsRead}
-use Rattle.image.specs.Rows.{row_at}
-use Rattle.image.specs.Format.{clock_row, collected_row, manifest_row, hold_row}
-use Rattle.image.specs.Reading.{place_at, manifest_at, hold_at, places_of, kept_of, holds_of, clock_at, collected_at, rows_begin, kept_begin, holds_begin, ledger_in}
-use Rattle.image.specs.Code.{line, objects_read, manifests_read, holds_read}
-use Rattle.image.proofs.RowLaws.{row_room}
-use Rattle.image.proofs.Walks.{rows-room}
-use Rattle.image.proofs.Spots.{spot_room}
-use Rattle.image.proofs.Things.{line-number}
-use Rattle.image.proofs.Heads.{edition-room, clock-room, head-room}
-use Rattle.image.proofs.loading.read_rows.Goals.{After-read_holds-held, After-read_manifests-kept, After-read_objects-places, Start}
+use Rattle.arrays.proofs.Lists.{pad-none}
+use Rattle.manifests.specs.declared.Manifests.{Manifests}
+use Rattle.manifests.specs.Manifests.{no_manifest, lay_manifests}
+use Rattle.manifests.proofs.Places.{first-laid, first_items}
+use Rattle.holds.specs.declared.Holds.{Holds}
+use Rattle.holds.specs.Holds.{no_hold, lay_holds}
+use Rattle.ledger.specs.declared.Ledger.{Ledger}
+use Rattle.image.specs.Rows.{rows_from}
+use Rattle.image.specs.Format.{edition_row, clock_row, collected_row, edition}
+use Rattle.image.specs.Reading.{number_at, hold_at, manifest_at, places_of, objects_of, kept_of, holds_of, clock_at, collected_at, rows_begin, kept_begin, holds_begin, rows_end, ledger_in}
+use Rattle.image.specs.Code.{found_manifest, Filled}
+use Rattle.image.proofs.Laying.{tail}
+use Rattle.image.proofs.Heads.{headed_by, rows_unheaded, rows_left, rows_all-read}
+use Rattle.image.proofs.Filling.{filled_manifests, filled_holds}
+use Rattle.image.proofs.loading.read_rows.Goals.{Else-branch-ne-FIRST_EDITION, In_ok-ledger, After-read_packed-held}
 use Rattle.image.proofs.loading.read_rows.Goals as goal
 
--- the room that the head shows, and that each group of rows leaves
-clocks : (c : Start) → clock_at ≤ length c.args.s.now
-clocks c = let f = conj-true _ c.requires in edition-room c.args.s.now f.0
+-- the numbers that were read
+edition_read : (c : Else-branch-ne-FIRST_EDITION) → number_at edition_row c.args.s.now ≡ Some edition
+edition_read c = sym c.in_ok-number.ensures.is ∙ ap (λ (n : ℕ). Some n) c.if-branch-ne-FIRST_EDITION.false
 
-collecteds : (c : Start) → collected_at ≤ length c.args.s.now
-collecteds c = let f = conj-true _ c.requires in clock-room c.args.s.now f.0 f.1.1.0
+clock_read : (c : In_ok-ledger) → number_at clock_row (drop clock_at c.args.s.now) ≡ Some c.in_ok-ledger.field-0
+clock_read c = ap (number_at clock_row) (sym (tail clock_at c.args.s.now)) ∙ sym c.in_ok-ledger.ensures.is
 
-begins : (c : Start) → rows_begin ≤ length c.args.s.now
-begins c = let f = conj-true _ c.requires in head-room c.args.s.now f.0 f.1.1.0 f.1.1.1.0
+-- the rows that were read, each group behind the one before it
+module _ (c : After-read_packed-held) where
+  abbrev s : List ℕ
+  s = c.args.s.now
 
-keeps : (s : List ℕ) → rows_begin ≤ length s → kept_begin s ≤ length s
-keeps s h = omega (arith, h, rows-room place_at spot_room limits.places 0 (drop rows_begin s), length-drop rows_begin s)
+  objects : c.read_objects-kept_at.new.objects ≡ objects_of (places_of (drop rows_begin s)).values
+  objects = c.read_objects-kept_at.ensures.objects ∙ ap (λ bs. objects_of (places_of bs).values) (tail rows_begin s)
 
-holds_begin_lem : (s : List ℕ) → rows_begin ≤ length s → holds_begin s ≤ length s
-holds_begin_lem s h = omega (arith, keeps s h, rows-room manifest_at (λ p bs. row_room manifest_row bs) (manifest_limit limits) 0 (drop (kept_begin s) s), length-drop (kept_begin s) s)
+  kept_at : rows_begin + c.read_objects-kept_at.result ≡ kept_begin s
+  kept_at = ap (λ (n : ℕ). rows_begin + n) (c.read_objects-kept_at.ensures.size ∙ ap (λ bs. (places_of bs).size) (tail rows_begin s))
 
-holds_end : (s : List ℕ) → rows_begin ≤ length s → holds_begin s + (holds_of (drop (holds_begin s) s)).size ≤ length s
-holds_end s h = omega (arith, holds_begin_lem s h, rows-room hold_at (λ p bs. row_room hold_row bs) limits.holds 0 (drop (holds_begin s) s), length-drop (holds_begin s) s)
+  kept : (◌≡◌ {A = Manifests} (record { count = c.read_packed-kept.result.value; items = c.read_packed-kept.new.places }) (lay_manifests (kept_of (drop (kept_begin s) s)).values))
+      × (c.read_packed-kept.result.size ≡ (kept_of (drop (kept_begin s) s)).size)
+  kept =
+      let none : c.fresh-ledger.result.manifests.items ≡ replicate (manifest_limit limits) no_manifest =
+      ap (λ (l : Ledger). l.manifests.items) c.fresh-ledger.ensures ∙ sym (first_items (sym first-laid)) in
+      let rest = tail (rows_begin + c.read_objects-kept_at.result) s ∙ ap (λ (n : ℕ). drop n s) kept_at in
+      filled_manifests (drop (kept_begin s) s) none (rw rest at c.read_packed-kept.ensures.filled)
 
--- what was read, by the definition
-places : (c : After-read_objects-places) → c.read_objects-places.result ≡ objects_read (places_of (drop rows_begin c.args.s.now))
-places c = c.read_objects-places.ensures ∙ ap (λ l. objects_read (places_of l)) (tail rows_begin c.args.s.now)
+  held_at : rows_begin + c.read_objects-kept_at.result + c.read_packed-kept.result.size ≡ holds_begin s
+  held_at = λ i. kept_at i + kept.1 i
 
-kept_at : (c : After-read_objects-places) → rows_begin + c.read_objects-places.result.size ≡ kept_begin c.args.s.now
-kept_at c = ap (λ (r : ObjectsRead). rows_begin + r.size) (places c)
+  held : (◌≡◌ {A = Holds} (record { count = c.read_packed-held.result.value; items = c.read_packed-held.new.places }) (lay_holds (holds_of (drop (holds_begin s) s)).values))
+      × (c.read_packed-held.result.size ≡ (holds_of (drop (holds_begin s) s)).size)
+  held =
+      let none : c.fresh-ledger.result.holds.items ≡ replicate limits.holds no_hold = ap (λ (l : Ledger). l.holds.items) c.fresh-ledger.ensures ∙ pad-none limits.holds no_hold in
+      let rest = tail (rows_begin + c.read_objects-kept_at.result + c.read_packed-kept.result.size) s ∙ ap (λ (n : ℕ). drop n s) held_at in
+      filled_holds (drop (holds_begin s) s) none (rw rest at c.read_packed-held.ensures.filled)
 
-kept : (c : After-read_manifests-kept) → c.read_manifests-kept.result ≡ manifests_read (kept_of (drop (kept_begin c.args.s.now) c.args.s.now))
-kept c =
-    c.read_manifests-kept.ensures ∙ ap (λ l. manifests_read (kept_of l)) (tail (rows_begin + c.read_objects-places.result.size) c.args.s.now ∙ ap (λ (n : ℕ). drop n c.args.s.now) (kept_at (goal.at.After-read_manifests-kept c).After-read_objects-places))
+  ends : rows_begin + c.read_objects-kept_at.result + c.read_packed-kept.result.size + c.read_packed-held.result.size ≡ rows_end s
+  ends = λ i. held_at i + held.1 i
 
-held_at : (c : After-read_manifests-kept) → rows_begin + c.read_objects-places.result.size + c.read_manifests-kept.result.size ≡ holds_begin c.args.s.now
-held_at c =
-    ap (λ (n : ℕ). n + c.read_manifests-kept.result.size) (kept_at (goal.at.After-read_manifests-kept c).After-read_objects-places) ∙ ap (λ (r : ManifestsRead). kept_begin c.args.s.now + r.size) (kept c)
+pub returns-in_err-number : goal.returns-in_err-number
+unfolding conj
+returns-in_err-number c = c.from_residual.ensures ∙ sym (rows_unheaded c.args.s.now (rw (sym c.in_err-number.ensures.is)))
 
-held : (c : After-read_holds-held) → c.read_holds-held.result ≡ holds_read (holds_of (drop (holds_begin c.args.s.now) c.args.s.now))
-held c =
-    c.read_holds-held.ensures ∙ ap (λ l. holds_read (holds_of l)) (tail (rows_begin + c.read_objects-places.result.size + c.read_manifests-kept.result.size) c.args.s.now ∙ ap (λ (n : ℕ). drop n c.args.s.now) (held_at (goal.at.After-read_holds-held c).After-read_manifests-kept))
+pub returns-then-branch-ne-FIRST_EDITION : goal.returns-then-branch-ne-FIRST_EDITION
+unfolding conj
+returns-then-branch-ne-FIRST_EDITION c =
+    sym (rows_unheaded c.args.s.now (rw (sym c.in_ok-number.ensures.is, ne_eqb c.in_ok-number.field-0 edition c.if-branch-ne-FIRST_EDITION.true)))
 
-pub slice_bounds-single_at-count : goal.slice_bounds-single_at-count
-slice_bounds-single_at-count c = omega (arith, clocks (goal.at.slice_bounds-single_at-count c).Start)
+pub returns-in_err-ledger : goal.returns-in_err-ledger
+unfolding conj
+returns-in_err-ledger c =
+    let e = edition_read (goal.at.returns-in_err-ledger c).Else-branch-ne-FIRST_EDITION in
+    let none : number_at clock_row (drop clock_at c.args.s.now) ≡ None = ap (number_at clock_row) (sym (tail clock_at c.args.s.now)) ∙ sym c.in_err-ledger.ensures.is in
+    c.from_residual-in_err-ledger.ensures ∙ sym (rows_unheaded c.args.s.now (rw (e, none)))
 
-pub slice_bounds-single_at-start : goal.slice_bounds-single_at-start
-slice_bounds-single_at-start c = omega (arith, clocks (goal.at.slice_bounds-single_at-start c).Start)
+pub returns-in_err-ledger-2 : goal.returns-in_err-ledger-2
+unfolding conj
+returns-in_err-ledger-2 c =
+    let at = goal.at.returns-in_err-ledger-2 c in
+    let none : number_at collected_row (drop collected_at c.args.s.now) ≡ None =
+    ap (number_at collected_row) (sym (tail collected_at c.args.s.now)) ∙ sym c.in_err-ledger-2.ensures.is in
+    c.from_residual-in_err-ledger-2.ensures ∙ sym (rows_unheaded c.args.s.now (rw (edition_read at.Else-branch-ne-FIRST_EDITION, clock_read at.In_ok-ledger, none)))
 
-pub slice_bounds-single_at-count-2 : goal.slice_bounds-single_at-count-2
-slice_bounds-single_at-count-2 c = omega (arith, collecteds (goal.at.slice_bounds-single_at-count-2 c).Start)
-
-pub slice_bounds-single_at-start-2 : goal.slice_bounds-single_at-start-2
-slice_bounds-single_at-start-2 c = omega (arith, collecteds (goal.at.slice_bounds-single_at-start-2 c).Start)
-
-pub slice_bounds-read_objects-count : goal.slice_bounds-read_objects-count
-slice_bounds-read_objects-count c = omega (arith, begins (goal.at.slice_bounds-read_objects-count c).Start)
-
-pub slice_bounds-read_objects-start : goal.slice_bounds-read_objects-start
-slice_bounds-read_objects-start c = omega (arith, begins (goal.at.slice_bounds-read_objects-start c).Start)
-
-pub overflow_add-kept_at : goal.overflow_add-kept_at
-overflow_add-kept_at c = omega (arith, kept_at (goal.at.overflow_add-kept_at c).After-read_objects-places, keeps c.args.s.now (begins (goal.at.overflow_add-kept_at c).Start), c.well_formed)
-
-pub slice_bounds-read_manifests-count : goal.slice_bounds-read_manifests-count
-slice_bounds-read_manifests-count c = omega (arith, kept_at (goal.at.slice_bounds-read_manifests-count c).After-read_objects-places, keeps c.args.s.now (begins (goal.at.slice_bounds-read_manifests-count c).Start))
-
-pub slice_bounds-read_manifests-start : goal.slice_bounds-read_manifests-start
-slice_bounds-read_manifests-start c = omega (arith, kept_at (goal.at.slice_bounds-read_manifests-start c).After-read_objects-places, keeps c.args.s.now (begins (goal.at.slice_bounds-read_manifests-start c).Start))
-
-pub overflow_add-held_at : goal.overflow_add-held_at
-overflow_add-held_at c = omega (arith, held_at (goal.at.overflow_add-held_at c).After-read_manifests-kept, holds_begin_lem c.args.s.now (begins (goal.at.overflow_add-held_at c).Start), c.well_formed)
-
-pub slice_bounds-read_holds-count : goal.slice_bounds-read_holds-count
-slice_bounds-read_holds-count c = omega (arith, held_at (goal.at.slice_bounds-read_holds-count c).After-read_manifests-kept, holds_begin_lem c.args.s.now (begins (goal.at.slice_bounds-read_holds-count c).Start))
-
-pub slice_bounds-read_holds-start : goal.slice_bounds-read_holds-start
-slice_bounds-read_holds-start c = omega (arith, held_at (goal.at.slice_bounds-read_holds-start c).After-read_manifests-kept, holds_begin_lem c.args.s.now (begins (goal.at.slice_bounds-read_holds-start c).Start))
-
-pub overflow_add-result : goal.overflow_add-result
-overflow_add-result c =
-    let size = ap (λ (r : HoldsRead). r.size) (held (goal.at.overflow_add-result c).After-read_holds-held) in
-    omega (arith, size, held_at (goal.at.overflow_add-result c).After-read_manifests-kept, holds_end c.args.s.now (begins (goal.at.overflow_add-result c).Start), c.well_formed)
+pub returns-then-held_at-held : goal.returns-then-held_at-held
+returns-then-held_at-held c = sym (rows_left c.args.s.now (λ e. c.if-held_at-held.true (ends (goal.at.returns-then-held_at-held c).After-read_packed-held ∙ e)))
 
 pub returns : goal.returns
 unfolding ledger_in
 returns c =
     let s = c.args.s.now in
-    let h = held (goal.at.returns c).After-read_holds-held in
-    let clock = line-number c.single_at-clock_row.result (row_at clock_row (drop clock_at s)) (c.single_at-clock_row.ensures ∙ ap (λ bs. line (row_at clock_row bs)) (tail clock_at s)) in
-    let collected = line-number c.single_at-collected_row.result (row_at collected_row (drop collected_at s)) (c.single_at-collected_row.ensures ∙ ap (λ bs. line (row_at collected_row bs)) (tail collected_at s)) in
-    let end = ap (λ (n : ℕ). n + c.read_holds-held.result.size) (held_at (goal.at.returns c).After-read_manifests-kept) ∙ ap (λ (r : HoldsRead). holds_begin s + r.size) h in
+    let at = goal.at.returns c in
+    let clock = clock_read at.In_ok-ledger in
+    let collected : number_at collected_row (drop collected_at s) ≡ Some c.in_ok-ledger-2.field-0 = ap (number_at collected_row) (sym (tail collected_at s)) ∙ sym c.in_ok-ledger-2.ensures.is in
+    let read = at.After-read_packed-held in
+    let is : ◌≡◌ {A = Ledger} (record {
+      clock = c.in_ok-ledger.field-0;
+      collected = c.in_ok-ledger-2.field-0;
+      objects = c.read_objects-kept_at.new.objects;
+      manifests = record { count = c.read_packed-kept.result.value; items = c.read_packed-kept.new.places };
+      holds = record { count = c.read_packed-held.result.value; items = c.read_packed-held.new.places };
+    }) (ledger_in s) =
     λ i. record {
-      whole = eqb (end i) (length s);
-      ledger = record {
-        clock = clock i;
-        collected = collected i;
-        objects = (places (goal.at.returns c).After-read_objects-places i).objects;
-        manifests = (kept (goal.at.returns c).After-read_manifests-kept i).manifests;
-        holds = (h i).holds;
-      };
-    }
+      clock = unwrap_or (sym clock i) 0;
+      collected = unwrap_or (sym collected i) 0;
+      objects = objects read i;
+      manifests = (kept read).0 i;
+      holds = (held read).0 i;
+    } in
+    ap (λ (l : Ledger). Some l) is ∙ sym (rows_all-read s (headed_by s (edition_read at.Else-branch-ne-FIRST_EDITION) clock collected) (sym (ends read) ∙ c.if-held_at-held.false))

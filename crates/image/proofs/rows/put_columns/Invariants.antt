@@ -1,15 +1,12 @@
--- `image::rows::put_columns` meets its contract: what is written, and then the numbers from i on, are the bytes of all.
+-- `image::rows::put_columns` meets its contract: what is written, and then the numbers that are left, are the bytes of all.
 -- Assumes nothing.
-use mathlib.Core.Path.{◌≡◌}
-use mathlib.Core.List.{◌++◌}
-use Prim.Native.Nat.{◌+◌, ◌-◌, ◌≤◌}
-use lib.ListN.{length, take, drop}
+use Rattle.std.proofs.Common.{◌≡◌, ◌+◌, ◌++◌, length, take}
 use Rattle.image.specs.Rows.{bare, total}
 use Rattle.image.proofs.rows.put_columns.Given as goal
 
-abbrev pub invariant-loop-i : goal.invariant-loop-i
-invariant-loop-i l =
-    (l.i ≤ length l.widths) × (length l.out ≡ length l.initial.out) × (l.at + total (drop l.i l.widths) ≡ length l.initial.out) × (take l.at l.out ++ bare (drop l.i l.widths) (drop l.i l.numbers) ≡ bare l.widths l.numbers)
-
-abbrev pub decreases-loop-i : goal.decreases-loop-i
-decreases-loop-i l = length l.widths - l.i
+abbrev pub invariant-loop-width : goal.invariant-loop-width
+invariant-loop-width l = record {
+  in_step : length l.width-iterator.a.rest.now ≡ length l.width-iterator.b.rest.now;
+  room : l.at + total l.width-iterator.a.rest.now ≡ length l.initial.out;
+  laid : take l.at l.out ++ bare l.width-iterator.a.rest.now l.width-iterator.b.rest.now ≡ bare l.widths l.numbers;
+}

@@ -1,82 +1,56 @@
 -- `image::saving::put_image` meets its contract: each part lies behind those before it. Assumes nothing.
-use mathlib.Core.Path.{◌≡◌, sym, ap, ◌∙◌}
-use mathlib.Core.List.{List, ◌∷◌, ◌++◌, append_assoc}
-use Prim.Native.Nat.{ℕ, ◌+◌, ◌-◌}
-use native.Mathlib.Omega.{arith}
-use lib.ListN.{length, take, drop}
+use Rattle.std.proofs.Common.{◌≡◌, ℕ, ◌+◌, ◌-◌, List, ◌∷◌, ◌++◌, length, take, drop, sym, ap, ◌∙◌, append_assoc, arith}
 use Rattle.fields.specs.Bytes.{be}
 use Rattle.records.proofs.Pieces.{length-head}
-use Rattle.rules.specs.State.{Manifest, kept}
-use Rattle.manifests.specs.Manifests.{manifests_of}
-use Rattle.holds.specs.Holds.{holds_of}
-use Rattle.holds.proofs.Places.{few as holds-few}
 use Rattle.ledger.specs.declared.Ledger.{Ledger}
 use Rattle.ledger.specs.Ledger.{view}
-use Rattle.ledger.proofs.View.{sized, Laid, sound_parts, kept-view}
-use Rattle.image.specs.Rows.{bytes_from}
-use Rattle.image.specs.Image.{image_tag, head_bytes, place_bytes, manifest_bytes, hold_bytes, content_of, image_of}
-use Rattle.image.proofs.Lengths.{length-head-rows, length-content, length_image}
+use Rattle.ledger.proofs.View.{Sized, sized}
+use Rattle.image.specs.Image.{image_tag, head_bytes, content_of, image_of}
+use Rattle.image.proofs.Lengths.{length-head-rows, length_image}
 use Rattle.image.proofs.Laying.{Lies, lies_long, lies_part, lies_left, lies_rest, lies_all}
-use Rattle.image.proofs.saving.put_image.Goals.{After-put_head, After-put_header, After-put_holds, After-put_manifests, After-put_places, Start}
+use Rattle.image.proofs.Parts.{all-any, places, manifests, holds, manifests-within, holds-within, lists-laid, content, image_parts}
+use Rattle.image.proofs.saving.put_image.Goals.{Start, After-put_head, After-put_header, After-put_rows-at, After-put_rows-at-2}
 use Rattle.image.proofs.saving.put_image.Goals as goal
 
--- The parts of the image
+size : (c : Start) → Sized c.args.ledger
+size c = sized c.args.ledger _ c.well_formed.0
 
-abbrev header : Ledger → List ℕ
-header l = head_bytes l.clock l.collected
-
-abbrev places : Ledger → List ℕ
-places l = bytes_from place_bytes 0 l.objects.items
-
-abbrev manifests : Ledger → List ℕ
-manifests l = bytes_from manifest_bytes 0 (manifests_of l.manifests)
-
-abbrev holds : Ledger → List ℕ
-holds l = bytes_from hold_bytes 0 (holds_of l.holds)
-
-parts : (c : Start) → Laid c.args.ledger
-parts c = sound_parts c.args.ledger c.requires.0
-
-kept_same : (c : Start) → kept (view c.args.ledger) ≡ manifests_of c.args.ledger.manifests
-kept_same c = kept-view c.args.ledger (sized c.args.ledger _ c.well_formed.0) (parts c)
-
--- there is room for them, and for no more
+-- there is room for the parts, and for no more
 room : (c : Start) → length c.args.out.now ≡ 29 + length (places c.args.ledger) + length (manifests c.args.ledger) + length (holds c.args.ledger)
-room c =
-    let l = c.args.ledger in
-    omega (arith, c.requires.1, length_image (view l), length-content (view l), ap (λ (ms : List Manifest). length (bytes_from manifest_bytes 0 ms)) (kept_same c))
-
-abbrev tagged : Start → List ℕ
-tagged c = image_tag ∷ be 2 (length c.args.out.now - 3)
+room c = c.requires.1 ∙ image_parts c.args.ledger (size c) c.requires.0
 
 -- What lies there behind each call
 
-head_lies : (c : After-put_head) → Lies c.args.out.now (tagged (goal.at.After-put_head c).Start) c.put_head.new.out 3
+abbrev header : Ledger → List ℕ → List ℕ
+header l out = (image_tag ∷ be 2 (length out - 3)) ++ head_bytes l.clock l.collected
+
+head_lies : (c : After-put_head) → Lies c.args.out.now (image_tag ∷ be 2 (length c.args.out.now - 3)) c.put_head.new.out 3
 head_lies c = record { same = c.put_head.ensures; count = length-head image_tag (length c.args.out.now - 3); room = omega (arith, room (goal.at.After-put_head c).Start) }
 
-abbrev with_header : (c : After-put_header) → List ℕ
+abbrev with_header : After-put_header → List ℕ
 with_header c = take 3 c.put_head.new.out ++ (c.put_header.new.out ++ drop 26 (drop 3 c.put_head.new.out))
 
-header_lies : (c : After-put_header) → Lies c.args.out.now (tagged (goal.at.After-put_header c).Start ++ header c.args.ledger) (with_header c) 29
+header_lies : (c : After-put_header) → Lies c.args.out.now (header c.args.ledger c.args.out.now) (with_header c) 29
 header_lies c =
-    lies_part (head_lies (goal.at.After-put_header c).After-put_head) 26 c.put_header.ensures (length-head-rows c.args.ledger.clock c.args.ledger.collected) (omega (arith, room (goal.at.After-put_header c).Start))
+    let s = goal.at.After-put_header c in
+    lies_part (head_lies s.After-put_head) 26 c.put_header.ensures (length-head-rows c.args.ledger.clock c.args.ledger.collected) (omega (arith, room s.Start))
 
-abbrev with_all_places : (c : After-put_places) → List ℕ
-with_all_places c =
-    take 29 (with_header (goal.at.After-put_places c).After-put_header) ++ (c.put_places.new.out ++ drop (length (with_header (goal.at.After-put_places c).After-put_header) - 29) (drop 29 (with_header (goal.at.After-put_places c).After-put_header)))
+-- what is laid from k on, to the end
+abbrev laid : ℕ → List ℕ → List ℕ → List ℕ
+laid k now ys = take k now ++ (ys ++ drop (length now - k) (drop k now))
 
-places_lie : (c : After-put_places) → Lies c.args.out.now ((tagged (goal.at.After-put_places c).Start ++ header c.args.ledger) ++ places c.args.ledger) (with_all_places c) (29 + c.put_places.result)
-places_lie c = lies_rest (header_lies (goal.at.After-put_places c).After-put_header) c.put_places.ensures (omega (arith, room (goal.at.After-put_places c).Start))
+abbrev with_places : After-put_rows-at → List ℕ
+with_places c = laid 29 (with_header (goal.at.After-put_rows-at c).After-put_header) c.put_rows-at.new.out
 
-abbrev with_manifests : (c : After-put_manifests) → List ℕ
-with_manifests c =
-    take (29 + c.put_places.result) (with_all_places (goal.at.After-put_manifests c).After-put_places) ++ (c.put_manifests.new.out ++ drop (length (with_all_places (goal.at.After-put_manifests c).After-put_places) - (29 + c.put_places.result)) (drop (29 + c.put_places.result) (with_all_places (goal.at.After-put_manifests c).After-put_places)))
+places_lie : (c : After-put_rows-at) → Lies c.args.out.now (header c.args.ledger c.args.out.now ++ places c.args.ledger) (with_places c) (29 + c.put_rows-at.result)
+places_lie c = let s = goal.at.After-put_rows-at c in lies_rest (header_lies s.After-put_header) c.put_rows-at.ensures (omega (arith, room s.Start))
 
-manifests_lie : (c : After-put_manifests) → Lies c.args.out.now (((tagged (goal.at.After-put_manifests c).Start ++ header c.args.ledger) ++ places c.args.ledger) ++ manifests c.args.ledger) (with_manifests c) (29 + c.put_places.result + c.put_manifests.result)
-manifests_lie c = lies_rest (places_lie (goal.at.After-put_manifests c).After-put_places) c.put_manifests.ensures (omega (arith, room (goal.at.After-put_manifests c).Start, c.put_places.ensures.count))
+abbrev with_manifests : After-put_rows-at-2 → List ℕ
+with_manifests c = laid (29 + c.put_rows-at.result) (with_places (goal.at.After-put_rows-at-2 c).After-put_rows-at) c.put_rows-at-2.new.out
 
-holds_lie : (c : After-put_holds) → Lies c.args.out.now ((((tagged (goal.at.After-put_holds c).Start ++ header c.args.ledger) ++ places c.args.ledger) ++ manifests c.args.ledger) ++ holds c.args.ledger) (take (29 + c.put_places.result + c.put_manifests.result) (with_manifests (goal.at.After-put_holds c).After-put_manifests) ++ (c.put_holds.new.out ++ drop (length (with_manifests (goal.at.After-put_holds c).After-put_manifests) - (29 + c.put_places.result + c.put_manifests.result)) (drop (29 + c.put_places.result + c.put_manifests.result) (with_manifests (goal.at.After-put_holds c).After-put_manifests)))) (29 + c.put_places.result + c.put_manifests.result + c.put_holds.result)
-holds_lie c = lies_rest (manifests_lie (goal.at.After-put_holds c).After-put_manifests) c.put_holds.ensures (omega (arith, room (goal.at.After-put_holds c).Start, c.put_places.ensures.count, c.put_manifests.ensures.count))
+manifests_lie : (c : After-put_rows-at-2)
+    → Lies c.args.out.now ((header c.args.ledger c.args.out.now ++ places c.args.ledger) ++ manifests c.args.ledger) (with_manifests c) (29 + c.put_rows-at.result + c.put_rows-at-2.result)
+manifests_lie c = let s = goal.at.After-put_rows-at-2 c in lies_rest (places_lie s.After-put_rows-at) c.put_rows-at-2.ensures (omega (arith, room s.Start, c.put_rows-at.ensures.count))
 
 pub overflow_sub-out : goal.overflow_sub-out
 overflow_sub-out c = omega (arith, room (goal.at.overflow_sub-out c).Start)
@@ -85,45 +59,58 @@ pub put_head-requires : goal.put_head-requires
 put_head-requires c = omega (arith, room (goal.at.put_head-requires c).Start)
 
 pub slice_bounds-put_header-end : goal.slice_bounds-put_header-end
-slice_bounds-put_header-end c = omega (arith, room (goal.at.slice_bounds-put_header-end c).Start, lies_long (head_lies (goal.at.slice_bounds-put_header-end c).After-put_head))
+slice_bounds-put_header-end c = let s = goal.at.slice_bounds-put_header-end c in omega (arith, room s.Start, lies_long (head_lies s.After-put_head))
 
-pub slice_bounds-put_places-count : goal.slice_bounds-put_places-count
-slice_bounds-put_places-count c = omega (arith, room (goal.at.slice_bounds-put_places-count c).Start, lies_long (header_lies (goal.at.slice_bounds-put_places-count c).After-put_header))
+pub slice_bounds-put_rows-count : goal.slice_bounds-put_rows-count
+slice_bounds-put_rows-count c = let s = goal.at.slice_bounds-put_rows-count c in omega (arith, room s.Start, lies_long (header_lies s.After-put_header))
 
-pub slice_bounds-put_places-start : goal.slice_bounds-put_places-start
-slice_bounds-put_places-start c = omega (arith, room (goal.at.slice_bounds-put_places-start c).Start, lies_long (header_lies (goal.at.slice_bounds-put_places-start c).After-put_header))
+pub slice_bounds-put_rows-start : goal.slice_bounds-put_rows-start
+slice_bounds-put_rows-start c = let s = goal.at.slice_bounds-put_rows-start c in omega (arith, room s.Start, lies_long (header_lies s.After-put_header))
 
-pub put_places-requires : goal.put_places-requires
-put_places-requires c = omega (arith, room (goal.at.put_places-requires c).Start, lies_left (header_lies (goal.at.put_places-requires c).After-put_header))
+pub put_rows-at-requires : goal.put_rows-at-requires
+put_rows-at-requires c = let s = goal.at.put_rows-at-requires c in (all-any c.args.ledger.objects.items, omega (arith, room s.Start, lies_left (header_lies s.After-put_header)))
 
-pub slice_bounds-put_manifests-count : goal.slice_bounds-put_manifests-count
-slice_bounds-put_manifests-count c = omega (arith, room (goal.at.slice_bounds-put_manifests-count c).Start, c.put_places.ensures.count, lies_long (places_lie (goal.at.slice_bounds-put_manifests-count c).After-put_places))
+pub shared_ref_as_front-put_rows : goal.shared_ref_as_front-put_rows
+shared_ref_as_front-put_rows c = manifests-within c.args.ledger (size (goal.at.shared_ref_as_front-put_rows c).Start) c.requires.0
 
-pub slice_bounds-put_manifests-start : goal.slice_bounds-put_manifests-start
-slice_bounds-put_manifests-start c = omega (arith, room (goal.at.slice_bounds-put_manifests-start c).Start, c.put_places.ensures.count, lies_long (places_lie (goal.at.slice_bounds-put_manifests-start c).After-put_places))
+pub slice_bounds-put_rows-count-2 : goal.slice_bounds-put_rows-count-2
+slice_bounds-put_rows-count-2 c = let s = goal.at.slice_bounds-put_rows-count-2 c in omega (arith, room s.Start, c.put_rows-at.ensures.count, lies_long (places_lie s.After-put_rows-at))
 
-pub put_manifests-requires : goal.put_manifests-requires
-put_manifests-requires c = ((parts (goal.at.put_manifests-requires c).Start).manifests, omega (arith, room (goal.at.put_manifests-requires c).Start, c.put_places.ensures.count, lies_left (places_lie (goal.at.put_manifests-requires c).After-put_places)))
+pub slice_bounds-put_rows-start-2 : goal.slice_bounds-put_rows-start-2
+slice_bounds-put_rows-start-2 c = let s = goal.at.slice_bounds-put_rows-start-2 c in omega (arith, room s.Start, c.put_rows-at.ensures.count, lies_long (places_lie s.After-put_rows-at))
 
-pub slice_bounds-put_holds-count : goal.slice_bounds-put_holds-count
-slice_bounds-put_holds-count c = omega (arith, room (goal.at.slice_bounds-put_holds-count c).Start, c.put_places.ensures.count, c.put_manifests.ensures.count, lies_long (manifests_lie (goal.at.slice_bounds-put_holds-count c).After-put_manifests))
+pub put_rows-at-requires-2 : goal.put_rows-at-requires-2
+put_rows-at-requires-2 c =
+    let s = goal.at.put_rows-at-requires-2 c in
+    (lists-laid c.args.ledger (size s.Start) c.requires.0, omega (arith, room s.Start, c.put_rows-at.ensures.count, lies_left (places_lie s.After-put_rows-at)))
 
-pub slice_bounds-put_holds-start : goal.slice_bounds-put_holds-start
-slice_bounds-put_holds-start c = omega (arith, room (goal.at.slice_bounds-put_holds-start c).Start, c.put_places.ensures.count, c.put_manifests.ensures.count, lies_long (manifests_lie (goal.at.slice_bounds-put_holds-start c).After-put_manifests))
+pub shared_ref_as_front-put_rows-2 : goal.shared_ref_as_front-put_rows-2
+shared_ref_as_front-put_rows-2 c = holds-within c.args.ledger (size (goal.at.shared_ref_as_front-put_rows-2 c).Start) c.requires.0
 
-pub put_holds-requires : goal.put_holds-requires
-put_holds-requires c =
-    (holds-few c.args.ledger.holds (parts (goal.at.put_holds-requires c).Start).holds, omega (arith, room (goal.at.put_holds-requires c).Start, c.put_places.ensures.count, c.put_manifests.ensures.count, lies_left (manifests_lie (goal.at.put_holds-requires c).After-put_manifests)))
+pub slice_bounds-put_rows-count-3 : goal.slice_bounds-put_rows-count-3
+slice_bounds-put_rows-count-3 c =
+    let s = goal.at.slice_bounds-put_rows-count-3 c in omega (arith, room s.Start, c.put_rows-at.ensures.count, c.put_rows-at-2.ensures.count, lies_long (manifests_lie s.After-put_rows-at-2))
+
+pub slice_bounds-put_rows-start-3 : goal.slice_bounds-put_rows-start-3
+slice_bounds-put_rows-start-3 c =
+    let s = goal.at.slice_bounds-put_rows-start-3 c in omega (arith, room s.Start, c.put_rows-at.ensures.count, c.put_rows-at-2.ensures.count, lies_long (manifests_lie s.After-put_rows-at-2))
+
+pub put_rows-requires : goal.put_rows-requires
+put_rows-requires c =
+    let s = goal.at.put_rows-requires c in (all-any _, omega (arith, room s.Start, c.put_rows-at.ensures.count, c.put_rows-at-2.ensures.count, lies_left (manifests_lie s.After-put_rows-at-2)))
 
 pub returns : goal.returns
 unfolding image_of
 returns c =
+    let s = goal.at.returns c in
     let l = c.args.ledger in
-    let h = header l in
-    let whole : length c.args.out.now - 3 ≡ length (content_of (view l)) = omega (arith, c.requires.1, length_image (view l)) in
-    lies_all (holds_lie (goal.at.returns c).After-put_holds) (omega (arith, room (goal.at.returns c).Start, c.put_places.ensures.count, c.put_manifests.ensures.count, c.put_holds.ensures.count))
-    ∙ append_assoc ((tagged (goal.at.returns c).Start ++ h) ++ places l) (manifests l) (holds l)
-    ∙ append_assoc (tagged (goal.at.returns c).Start ++ h) (places l) (manifests l ++ holds l)
-    ∙ append_assoc (tagged (goal.at.returns c).Start) h (places l ++ (manifests l ++ holds l))
-    ∙ ap (λ (ms : List Manifest). tagged (goal.at.returns c).Start ++ (h ++ (places l ++ (bytes_from manifest_bytes 0 ms ++ holds l)))) (sym (kept_same (goal.at.returns c).Start))
+    let out = c.args.out.now in
+    let head = image_tag ∷ be 2 (length out - 3) in
+    let whole : length out - 3 ≡ length (content_of (view l)) = omega (arith, c.requires.1, length_image (view l)) in
+    let lies = lies_rest (manifests_lie s.After-put_rows-at-2) c.put_rows.ensures (omega (arith, room s.Start, c.put_rows-at.ensures.count, c.put_rows-at-2.ensures.count)) in
+    lies_all lies (omega (arith, room s.Start, c.put_rows-at.ensures.count, c.put_rows-at-2.ensures.count, c.put_rows.ensures.count))
+    ∙ append_assoc (header l out ++ places l) (manifests l) (holds l)
+    ∙ append_assoc (header l out) (places l) (manifests l ++ holds l)
+    ∙ append_assoc head (head_bytes l.clock l.collected) (places l ++ (manifests l ++ holds l))
+    ∙ ap (λ (b : List ℕ). head ++ b) (sym (content l (size s.Start) c.requires.0))
     ∙ ap (λ (n : ℕ). image_tag ∷ (be 2 n ++ content_of (view l))) whole
