@@ -31,8 +31,7 @@ use Rattle.ledger.proofs.Looking.{look_outcome}
 use Rattle.ledger.proofs.Demand3.{delivered}
 use Rattle.records.proofs.RoundTripRecords.{picked}
 use Rattle.sheets.specs.declared.Sheet.{Sheet}
-use Rattle.sheets.specs.declared.SheetRead.{SheetRead}
-use Rattle.sheets.specs.declared.SheetRead.TheVariants.{Read, Malformed as NoSheet}
+use Rattle.std.specs.Prelude.{Option, Some, None}
 use Rattle.sheets.specs.Sheets.{decode_sheet}
 use Rattle.sheets.proofs.Reading.{read-formed}
 use Rattle.desk.specs.declared.SaleError.{SaleError}
@@ -60,7 +59,7 @@ module _ (l : Ledger) (time : ℕ) (sheet : List ℕ) (currency hold fare : ℕ)
         refused = λ f q. let same : e ≡ f = cc in (subst (λ (g : SaleError). 0 < error_number g) same some, ap (λ (a : SaleAnswer). a.ledger) is);
       }
 
-  went : (s : Sheet) → decode_sheet sheet ≡ Read s → fare ≤ largest_fare → s.currency ≡ currency → looked.verdict.answer ≡ Found s.object
+  went : (s : Sheet) → decode_sheet sheet ≡ Some s → fare ≤ largest_fare → s.currency ≡ currency → looked.verdict.answer ≡ Found s.object
       → sold ≡ record { sale = Ok (charge_of fare s.numerator s.denominator); ledger = looked.ledger } → SaleExact l time sheet currency hold fare
   went s read few same found e =
       let said = ap (λ (a : SaleAnswer). a.sale) e in
@@ -85,7 +84,7 @@ module _ (l : Ledger) (time : ℕ) (sheet : List ℕ) (currency hold fare : ℕ)
   kept-if_in_force next units true = refl
   kept-if_in_force next units false = refl
 
-  module _ (s : Sheet) (read : decode_sheet sheet ≡ Read s) (few : ltb largest_fare fare ≡ false) where
+  module _ (s : Sheet) (read : decode_sheet sheet ≡ Some s) (few : ltb largest_fare fare ≡ false) where
     found-sale : (n : ℕ) → looked.verdict.answer ≡ Found n
         → sold ≡ cond (is_in_force s n currency) (record { sale = Ok (charge_of fare s.numerator s.denominator); ledger = looked.ledger }) (refused_sale OtherSheet l)
     unfolding sale_of look_of
@@ -116,10 +115,10 @@ module _ (l : Ledger) (time : ℕ) (sheet : List ℕ) (currency hold fare : ℕ)
   unfolding sale_of
   sale-exact = step (decode_sheet sheet) refl (ltb largest_fare fare) refl
     where
-      step : (r : SheetRead) → decode_sheet sheet ≡ r → (b : Bool) → ltb largest_fare fare ≡ b → SaleExact l time sheet currency hold fare
-      step NoSheet read b few = turned Malformed (lit< tt) (rw read)
-      step (Read s) read true few = turned Malformed (lit< tt) (rw (read, few))
-      step (Read s) read false few = by-look s read few (look_outcome l time currency hold)
+      step : (r : Option Sheet) → decode_sheet sheet ≡ r → (b : Bool) → ltb largest_fare fare ≡ b → SaleExact l time sheet currency hold fare
+      step None read b few = turned Malformed (lit< tt) (rw read)
+      step (Some s) read true few = turned Malformed (lit< tt) (rw (read, few))
+      step (Some s) read false few = by-look s read few (look_outcome l time currency hold)
 
 -- ---- by the history
 
@@ -172,7 +171,7 @@ module _ (asks : List Ask) (time currency hold : ℕ) where
     charged : (n : ℕ) → (sale_of (ledger_after (lay fresh) asks) time sheet currency hold fare).sale ≡ Ok n → WentBy (ledger_after (lay fresh) asks) time sheet currency hold fare n
     charged n q = (sale-exact (ledger_after (lay fresh) asks) time sheet currency hold fare).charged n q
 
-    sells : (s : Sheet) → decode_sheet sheet ≡ Read s → fare ≤ largest_fare → s.currency ≡ currency → look_at limits time (history_of asks) currency hold ≡ Found s.object
+    sells : (s : Sheet) → decode_sheet sheet ≡ Some s → fare ≤ largest_fare → s.currency ≡ currency → look_at limits time (history_of asks) currency hold ≡ Found s.object
         → (sale_of (ledger_after (lay fresh) asks) time sheet currency hold fare).sale ≡ Ok (charge_of fare s.numerator s.denominator)
     sells s read few same found =
         let l = ledger_after (lay fresh) asks in

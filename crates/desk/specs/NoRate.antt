@@ -15,7 +15,7 @@ use Rattle.ledger.specs.Ledger.{lay}
 use Rattle.ledger.specs.Step.{judged}
 use Rattle.ledger.specs.Demand3.{ledger_after}
 use Rattle.sheets.specs.declared.Sheet.{Sheet}
-use Rattle.sheets.specs.declared.SheetRead.TheVariants.{Read}
+use Rattle.std.specs.Prelude.{Option, Some, None}
 use Rattle.sheets.specs.Sheets.{decode_sheet}
 use Rattle.desk.specs.declared.SaleError.{SaleError}
 use Rattle.desk.specs.Charge.{largest_fare, charge_of, Smallest}
@@ -26,7 +26,7 @@ module _ (l : Ledger) (time : ℕ) (sheet : List ℕ) (currency hold fare : ℕ)
   -- what a sale that charged n went by
   pub record WentBy (n : ℕ) : Type 0 where
     pub rate : Sheet
-    pub read : decode_sheet sheet ≡ Read rate
+    pub read : decode_sheet sheet ≡ Some rate
     pub fares : fare ≤ largest_fare
     -- the sheet is that of the asked currency, and the one that the look found
     pub same : rate.currency ≡ currency
@@ -53,7 +53,7 @@ module _ (asks : List Ask) (time : ℕ) (sheet : List ℕ) (currency hold fare :
 
   pub record NoRateNoCharge : Type 0 where
     -- by the sheet that a LOOK finds, by the history, a sale is charged
-    pub sells : (s : Sheet) → decode_sheet sheet ≡ Read s → fare ≤ largest_fare → s.currency ≡ currency → look_at limits time (history_of asks) currency hold ≡ Found s.object
+    pub sells : (s : Sheet) → decode_sheet sheet ≡ Some s → fare ≤ largest_fare → s.currency ≡ currency → look_at limits time (history_of asks) currency hold ≡ Found s.object
         → (sale_of (ledger_after (lay fresh) asks) time sheet currency hold fare).sale ≡ Ok (charge_of fare s.numerator s.denominator)
     -- a sheet that a sale went by is a rate in force, the highest of that currency
     pub in_force : (n : ℕ) (w : WentBy (ledger_after (lay fresh) asks) time sheet currency hold fare n)

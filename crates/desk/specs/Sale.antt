@@ -3,8 +3,7 @@
 use Rattle.std.specs.Prelude.{Bool, cond, ◌&&◌, List, ℕ, Result, Ok, Err, ltb, eqb}
 use Rattle.ledger.specs.declared.Ledger.{Ledger}
 use Rattle.sheets.specs.declared.Sheet.{Sheet}
-use Rattle.sheets.specs.declared.SheetRead.{SheetRead}
-use Rattle.sheets.specs.declared.SheetRead.TheVariants.{Read, Malformed as NoSheet}
+use Rattle.std.specs.Prelude.{Option, Some, None}
 use Rattle.sheets.specs.Sheets.{decode_sheet}
 use Rattle.desk.specs.declared.Looked.{Looked}
 use Rattle.desk.specs.declared.SaleError.{SaleError}
@@ -46,9 +45,9 @@ abbrev pub sold_by : Ledger → Sheet → ℕ → ℕ → Looked → SaleAnswer
 sold_by l s currency fare a = kept_by l a.ledger (sale_by s currency fare a.found)
 
 -- "It makes one LOOK at that time": with the currency and the hold that were asked
-abbrev pub sale_with : Ledger → ℕ → ℕ → ℕ → ℕ → SheetRead → SaleAnswer
-sale_with l time currency hold fare NoSheet = refused_sale Malformed l
-sale_with l time currency hold fare (Read s) = cond (ltb largest_fare fare) (refused_sale Malformed l) (sold_by l s currency fare (look_of l time currency hold))
+abbrev pub sale_with : Ledger → ℕ → ℕ → ℕ → ℕ → Option Sheet → SaleAnswer
+sale_with l time currency hold fare None = refused_sale Malformed l
+sale_with l time currency hold fare (Some s) = cond (ltb largest_fare fare) (refused_sale Malformed l) (sold_by l s currency fare (look_of l time currency hold))
 
 unfoldable pub sale_of : Ledger → ℕ → List ℕ → ℕ → ℕ → ℕ → SaleAnswer
 sale_of l time sheet currency hold fare = sale_with l time currency hold fare (decode_sheet sheet)

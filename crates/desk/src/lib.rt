@@ -11,7 +11,7 @@ ghost use Rattle.desk.specs.Card.{filled, card_of, answer_of, row_of};
 
 use ledger::Ledger;
 use rules::{Answer, Kind, NAMES, NameList, Step};
-use sheets::{Sheet, SheetRead};
+use sheets::Sheet;
 
 // The largest fare, in home units.
 pub const LARGEST_FARE: u64 = 1000000;
@@ -135,7 +135,7 @@ pub fn sell(
 ) -> SaleAnswer
     ensures { result ≡ sale_of ledger time bytes.now currency hold fare }
 {
-    let SheetRead::Read(sheet) = sheets::read_sheet(bytes) else {
+    let Some(sheet) = sheets::read_sheet(bytes) else {
         return refused(SaleError::Malformed, ledger);
     };
     if LARGEST_FARE < fare {

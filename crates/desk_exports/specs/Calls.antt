@@ -3,8 +3,7 @@
 use Rattle.std.specs.Prelude.{cond, List, [], ◌∷◌, ℕ, zero, suc, ◌+◌, ◌*◌, ◌/◌, Option, None, Some, Result, Ok, Err, ltb, length, get_or, set, replicate}
 use Rattle.fields.specs.Fields.{over}
 use Rattle.sheets.specs.declared.Sheet.{Sheet}
-use Rattle.sheets.specs.declared.SheetRead.{SheetRead}
-use Rattle.sheets.specs.declared.SheetRead.TheVariants.{Read, Malformed}
+use Rattle.std.specs.Prelude.{Option, Some, None}
 use Rattle.sheets.specs.Sheets.{decode_sheet, sheet_writing, sheet_code}
 use Rattle.desk.specs.declared.SaleError.{SaleError}
 use Rattle.desk.specs.declared.SaleAnswer.{SaleAnswer}
@@ -25,9 +24,9 @@ narrow c = cond (ltb 65535 c) 65535 c
 abbrev pub sheet_numbers : Sheet → List ℕ
 sheet_numbers s = s.object ∷ s.currency ∷ s.numerator ∷ s.denominator ∷ []
 
-abbrev pub sheet_told : SheetRead → List ℕ → Call
-sheet_told Malformed numbers = record { answer = sheet_code Malformed; left = numbers }
-sheet_told (Read s) numbers = record { answer = sheet_code (Read s); left = over (sheet_numbers s) numbers }
+abbrev pub sheet_told : Option Sheet → List ℕ → Call
+sheet_told None numbers = record { answer = sheet_code None; left = numbers }
+sheet_told (Some s) numbers = record { answer = sheet_code (Some s); left = over (sheet_numbers s) numbers }
 
 -- 3 where there is no place for the numbers, 2 for no sheet
 unfoldable pub read_sheet : List ℕ → List ℕ → Call

@@ -8,7 +8,7 @@ ghost use Rattle.desk_exports.specs.Calls.{narrow, sale_numbers, read_sheet, wri
 use desk::{Entry, ROW, SaleError};
 use exports::{MALFORMED, NO_PLACE, codec};
 use ledger_numbers::LEDGER;
-use sheets::{Sheet, SheetRead};
+use sheets::Sheet;
 
 // How many numbers a sheet, a sale and an entry of a card have.
 const SHEET: usize = 4;
@@ -34,7 +34,7 @@ pub fn cuudhaqil_read_sheet(bytes: &[u8], numbers: &mut [u64]) -> u64
     if numbers.len() < SHEET {
         return NO_PLACE;
     }
-    let SheetRead::Read(s) = sheets::read_sheet(bytes) else {
+    let Some(s) = sheets::read_sheet(bytes) else {
         return MALFORMED;
     };
     let from = [s.object, s.currency as u64, s.numerator, s.denominator];
