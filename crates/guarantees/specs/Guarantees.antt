@@ -14,7 +14,7 @@
 --   manifests::reaches    reach_of                         listing::read_listing    listing_of
 --   image::write_image    writing_of                       image::read_image        read_of
 --   log_check::check_log  checked_of                       log_check::check_log_from   answered_from, of read_of
-use Rattle.std.specs.Prelude.{◌≡◌, ◌⊎◌, ◌↔◌, Bool, true, false, not, ◌&&◌, List, [], ◌∷◌, ℕ, suc, ◌≤◌, ◌<◌, eqb, leb, length, take}
+use Rattle.std.specs.Prelude.{◌≡◌, ◌⊎◌, ◌↔◌, Bool, true, false, not, ◌&&◌, List, [], ◌∷◌, ℕ, suc, ◌≤◌, ◌<◌, eqb, leb, length, take, Option, None, Some, Result, Ok, Err}
 use Rattle.store_names.specs.RoundTrip.{RoundTrip}
 use Rattle.fields.specs.declared.Next.TheVariants.{Torn, Record}
 use Rattle.fields.specs.Fields.{over, next_of}
@@ -43,10 +43,7 @@ use Rattle.rules.specs.Compaction.{in_current, in_force, Compactions, Compaction
 use Rattle.rules.specs.Struck.{others, within, each, refusals, Strikable, Strikes}
 use Rattle.rules.specs.Depot as depot
 use Rattle.rules.specs.OutOfOrder as out_of_order
-use Rattle.records.specs.declared.Reading.TheVariants.{Read}
-use Rattle.records.specs.declared.StepRead.{StepRead}
-use Rattle.verdicts.specs.declared.VerdictRead.{VerdictRead}
-use Rattle.records.specs.declared.Write.TheVariants.{Written, Malformed}
+use Rattle.fields.specs.declared.WriteError.TheVariants.{Malformed}
 use Rattle.records.specs.Steps.{fields_of, encode_step, decode_step, step_read}
 use Rattle.verdicts.specs.Verdicts.{verdict_fields, verdict_formed, encode_verdict, decode_verdict, verdict_read, NoVerdict}
 use Rattle.records.specs.Writing.{Writing, step_writing}
@@ -73,22 +70,20 @@ use Rattle.replay.specs.Commit.{CommitsOnBytes}
 use Rattle.replay.specs.Demand3.{RunDelivered}
 use Rattle.replay.specs.Struck.{StrikesOnBytes}
 use Rattle.sheets.specs.RoundTrip.{SheetRoundTrip}
-use Rattle.desk.specs.declared.Sale.TheVariants.{Charged, Refused}
+use Rattle.desk.specs.declared.SaleError.{SaleError}
 use Rattle.desk.specs.Charge.{ChargeIsSmallest}
 use Rattle.desk.specs.Sale.{sale_of}
 use Rattle.desk.specs.NoRate.{SaleExact, LookedExact, NoRateNoCharge}
 use Rattle.desk.specs.Onward.{Onward}
-use Rattle.image.specs.declared.Reading.TheVariants.{Read as Loaded}
-use Rattle.image.specs.declared.ImageWrite.TheVariants.{Written as Saved, Unsound as NotSound}
+use Rattle.image.specs.declared.LoadError.{LoadError}
+use Rattle.image.specs.declared.SaveError.TheVariants.{Unsound as NotSound}
 use Rattle.image.specs.Image.{image_of}
-use Rattle.image.specs.Reading.{read_of, read_code}
+use Rattle.image.specs.Reading.{read_of, read_code, error_number, ledger_beside}
 use Rattle.image.specs.Writing.{writing_of}
 use Rattle.image.specs.RoundTrip.{Fits, ImageRoundTrip}
 use Rattle.image.specs.Form.{ImageForm}
 use Rattle.image_history.specs.AfterLoad.{Event, kept_all, path_all, at_start, no_steps, event_fits, AfterLoad}
 use Rattle.image_history.specs.UnknownHistory.{UnknownHistory}
-use Rattle.log_check.specs.declared.Checked.TheVariants.{Agree}
-use Rattle.log_check.specs.declared.CheckedFrom.TheVariants.{Loaded as CheckedOn, Refused as RefusedImage}
 use Rattle.log_check.specs.Check.{checked_of}
 use Rattle.log_check.specs.Exact.{own_log, LogChecked}
 use Rattle.log_check.specs.Image.{answered_from}
@@ -132,16 +127,16 @@ pub record Demand1 : Type 0 where
 -- Reading and writing on what the operations promise, a value and a buffer; `Fits`: the value's numbers fit their types
 pub record OnBuffers {A R : Type 0} (Fits : A → Type 0) (write : A → List ℕ → Writing) (read : List ℕ → R) (found : A → R) (refusal : R) : Type 0 where
   -- what was written into a buffer is read as the value
-  pub reads_written : (v : A) → Fits v → (buffer : List ℕ) (n : ℕ) → (write v buffer).answer ≡ Written n → read (take n (write v buffer).buffer) ≡ found v
+  pub reads_written : (v : A) → Fits v → (buffer : List ℕ) (n : ℕ) → (write v buffer).answer ≡ Ok n → read (take n (write v buffer).buffer) ≡ found v
   -- what was read is written, where there is room, as the bytes that it was read from; those beyond stay
   pub writes_read : (v : A) (bytes buffer : List ℕ) → are_bytes bytes ≡ true → read bytes ≡ found v → length bytes ≤ length buffer
-      → write v buffer ≡ record { answer = Written (length bytes); buffer = over bytes buffer }
+      → write v buffer ≡ record { answer = Ok (length bytes); buffer = over bytes buffer }
   -- the reader refuses the bytes that no value is written as
   pub refuses_bytes : (bytes : List ℕ) → are_bytes bytes ≡ true
-      → ((v : A) → Fits v → (buffer : List ℕ) → length bytes ≤ length buffer → write v buffer ≡ record { answer = Written (length bytes); buffer = over bytes buffer } → ⊥)
+      → ((v : A) → Fits v → (buffer : List ℕ) → length bytes ≤ length buffer → write v buffer ≡ record { answer = Ok (length bytes); buffer = over bytes buffer } → ⊥)
       → read bytes ≡ refusal
   -- "Writers answer 2 for what no reader takes", and for nothing else
-  pub refuses_value : (v : A) → Fits v → (buffer : List ℕ) → ((write v buffer).answer ≡ Malformed) ↔ ((bytes : List ℕ) → are_bytes bytes ≡ true → read bytes ≡ found v → ⊥)
+  pub refuses_value : (v : A) → Fits v → (buffer : List ℕ) → ((write v buffer).answer ≡ Err Malformed) ↔ ((bytes : List ℕ) → are_bytes bytes ≡ true → read bytes ≡ found v → ⊥)
 
 -- a typed step and a typed verdict, as their types have them
 pub record StepFits (p : Step) : Type 0 where
@@ -152,11 +147,11 @@ pub record VerdictFits (v : Verdict) : Type 0 where
   pub numbers : all_fit (verdict_fields v.answer) (objects_of v.list) ≡ true
   pub places : length v.list.objects ≡ limits.places
 
-abbrev pub step_found : Step → StepRead
-step_found p = record { reading = Read; step = p }
+abbrev pub step_found : Step → Option Step
+step_found p = Some p
 
-abbrev pub verdict_found : Verdict → VerdictRead
-verdict_found v = record { reading = Read; verdict = v }
+abbrev pub verdict_found : Verdict → Option Verdict
+verdict_found v = Some v
 
 pub record Demand2 : Type 0 where
   -- an accepted step answers and leaves what the rules say, laid out in its places; a ledger is sound exactly when it is the layout of a sound state
@@ -229,7 +224,7 @@ pub record Request2 : Type 0 where
   -- where the history has no rate in that currency, or no such live hold, nothing is charged, whatever the sheet
   pub no_rate : (asks : List Ask) (time : ℕ) (sheet : List ℕ) (currency hold fare : ℕ)
       → (none (rates_at time (history_of asks) currency hold) ≡ true) ⊎ ((0 < hold) × (held_at time (history_of asks) hold ≡ false))
-      → (n : ℕ) → (sale_of (kept_by asks) time sheet currency hold fare).sale ≡ Charged n → ⊥
+      → (n : ℕ) → (sale_of (kept_by asks) time sheet currency hold fare).sale ≡ Ok n → ⊥
   -- what a charged sale went by, and by which sheets one is charged, by the history; a refused one leaves the ledger, whatever it was
   pub sales : (asks : List Ask) (time : ℕ) (sheet : List ℕ) (currency hold fare : ℕ) → NoRateNoCharge asks time sheet currency hold fare
   pub any_sale : (l : Ledger) (time : ℕ) (sheet : List ℕ) (currency hold fare : ℕ) → SaleExact l time sheet currency hold fare
@@ -273,15 +268,15 @@ led_to es = (path_all no_steps es).asked
 
 pub record Request6 : Type 0 where
   -- on what the operations promise: what was written into a buffer is read as the ledger, free places included; its arrays and numbers are as its type says
-  pub reads_written : (l : Ledger) → ledger.Whole l → Fits (view l) → (buffer : List ℕ) (n : ℕ) → (writing_of l buffer).answer ≡ Saved n
-      → read_of (take n (writing_of l buffer).buffer) ≡ record { reading = Loaded; ledger = l }
+  pub reads_written : (l : Ledger) → ledger.Whole l → Fits (view l) → (buffer : List ℕ) (n : ℕ) → (writing_of l buffer).answer ≡ Ok n
+      → read_of (take n (writing_of l buffer).buffer) ≡ Ok l
   -- what was read is written, where there is room, as the bytes that it was read from; those beyond stay
-  pub writes_read : (l : Ledger) (bytes buffer : List ℕ) → are_bytes bytes ≡ true → read_of bytes ≡ record { reading = Loaded; ledger = l } → length bytes ≤ length buffer
-      → writing_of l buffer ≡ record { answer = Saved (length bytes); buffer = over bytes buffer }
+  pub writes_read : (l : Ledger) (bytes buffer : List ℕ) → are_bytes bytes ≡ true → read_of bytes ≡ Ok l → length bytes ≤ length buffer
+      → writing_of l buffer ≡ record { answer = Ok (length bytes); buffer = over bytes buffer }
   -- beside a refusal stands the fresh ledger; a ledger that was read is sound; one that is not is never written
-  pub beside_refusal : (bytes : List ℕ) → (read_code (read_of bytes).reading ≡ 0 → ⊥) → (read_of bytes).ledger ≡ lay fresh
-  pub sound : (bytes : List ℕ) → is_sound (read_of bytes).ledger ≡ true
-  pub unsound : (l : Ledger) (buffer : List ℕ) → is_sound l ≡ false → writing_of l buffer ≡ record { answer = NotSound; buffer = buffer }
+  pub beside_refusal : (bytes : List ℕ) → (read_code (read_of bytes) ≡ 0 → ⊥) → ledger_beside bytes ≡ lay fresh
+  pub sound : (bytes : List ℕ) → is_sound (ledger_beside bytes) ≡ true
+  pub unsound : (l : Ledger) (buffer : List ℕ) → is_sound l ≡ false → writing_of l buffer ≡ record { answer = Err NotSound; buffer = buffer }
   -- "A sound ledger has exactly one image", and all else is refused; which bytes have the form (else 2), and what they say (1 where that is not sound)
   pub round_trip : ImageRoundTrip
   pub form : ImageForm
@@ -304,16 +299,16 @@ pub record Request6 : Type 0 where
 pub record Request12 : Type 0 where
   -- "For a trace that ends whole it shall accept exactly the log our own run writes with room enough, and for a torn trace none": from any ledger value,
   -- whatever the output that the run was lent
-  pub whole : (l : Ledger) (trace log out : List ℕ) → ending_code (replay_of l trace out).answer.ending ≡ 0 → (checked_of l trace log ≡ Agree) ↔ (log ≡ own_log l trace out)
-  pub torn : (l : Ledger) (trace log out : List ℕ) → ending_code (replay_of l trace out).answer.ending ≡ 1 → checked_of l trace log ≡ Agree → ⊥
+  pub whole : (l : Ledger) (trace log out : List ℕ) → ending_code (replay_of l trace out).answer.ending ≡ 0 → (checked_of l trace log ≡ None) ↔ (log ≡ own_log l trace out)
+  pub torn : (l : Ledger) (trace log out : List ℕ) → ending_code (replay_of l trace out).answer.ending ≡ 1 → checked_of l trace log ≡ None → ⊥
   -- which room is enough; and an index is said exactly where the logs agree before it and not at it, verdict by verdict and in bytes
   pub checked : (l : Ledger) (trace log : List ℕ) → LogChecked l trace log
   -- "A refused image gives that refusal's number", and an image that is read its ledger
   pub refused_image : (image trace log : List ℕ) → (read_code (read_of image).reading ≡ 0 → ⊥) → answered_from (read_of image) trace log ≡ RefusedImage (read_code (read_of image).reading)
   pub read_image : (image trace log : List ℕ) → read_code (read_of image).reading ≡ 0 → answered_from (read_of image) trace log ≡ CheckedOn (checked_of (read_of image).ledger trace log)
   -- so from what was written of a ledger all is found that is found from the ledger itself
-  pub saved_image : (l : Ledger) → ledger.Whole l → Fits (view l) → (room : List ℕ) (n : ℕ) → (writing_of l room).answer ≡ Saved n → (trace log : List ℕ)
-      → answered_from (read_of (take n (writing_of l room).buffer)) trace log ≡ CheckedOn (checked_of l trace log)
+  pub saved_image : (l : Ledger) → ledger.Whole l → Fits (view l) → (room : List ℕ) (n : ℕ) → (writing_of l room).answer ≡ Ok n → (trace log : List ℕ)
+      → answered_from (read_of (take n (writing_of l room).buffer)) trace log ≡ Ok (checked_of l trace log)
 
 -- [13] looks just before and just after an accepted COMPACT, both at its time; refused steps that are struck from a trace
 
@@ -362,8 +357,8 @@ pub record AsNumbers : Type 0 where
   -- a refusal leaves the numbers that were lent as they are, bit for bit: of a step, of a sale, and of a run on a ledger that is not sound
   pub refused_step : (ledger numbers list verdict objects : List ℕ) → (number_on (ledger_from ledger) (request_in (kind_of numbers) numbers list) ≡ 0 → ⊥)
       → (step ledger numbers list verdict objects).ledger ≡ ledger
-  pub refused_sale : (ledger : List ℕ) (time : ℕ) (sheet : List ℕ) (currency hold fare : ℕ) (sale : List ℕ) (n : ℕ)
-      → (sale_of (ledger_from ledger) time sheet (narrow currency) hold fare).sale ≡ Refused n → (sell ledger time sheet currency hold fare sale).ledger ≡ ledger
+  pub refused_sale : (ledger : List ℕ) (time : ℕ) (sheet : List ℕ) (currency hold fare : ℕ) (sale : List ℕ) (e : SaleError)
+      → (sale_of (ledger_from ledger) time sheet (narrow currency) hold fare).sale ≡ Err e → (sell ledger time sheet currency hold fare sale).ledger ≡ ledger
   pub unsound_run : (ledger trace out counts : List ℕ) → is_sound (ledger_from ledger) ≡ false → (run_on ledger trace out counts).ledger ≡ ledger
 
 pub record Guarantees : Type 0 where
