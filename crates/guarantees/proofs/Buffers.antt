@@ -10,6 +10,8 @@ use lib.Dec.{eqb, ltb, leb, lit<}
 use lib.ListN.{length, take, drop}
 use lib.Seq.{length-take-le, take-append_seam}
 use borrow.Author.Tests.{eqb-true, ltb-true, ltb-false, le-ltb, leb-true}
+use Rattle.std.specs.Prelude.{Option, Some, None, Ok, Err}
+use Rattle.fields.specs.declared.WriteError.TheVariants.{Malformed, Full}
 use Rattle.fields.specs.Bytes.{be, words}
 use Rattle.fields.specs.Fields.{field, over}
 use Rattle.fields.proofs.Bytes.{Below, be-below, below-append}
@@ -29,16 +31,10 @@ use Rattle.rules.specs.Typed.{can_say, is_padded, name_list, names_of, object_li
 use Rattle.rules.proofs.Lists.{and_left, and_right, and_both, decide, true-false}
 use Rattle.rules.proofs.Typed.{list-asks, padded-from, padded_is, padded-room, padded-said, padded-take}
 use Rattle.records.specs.declared.Field.{Field}
-use Rattle.records.specs.declared.Reading.{Reading}
-use Rattle.records.specs.declared.Reading.TheVariants.{Read, Malformed as NotRead}
-use Rattle.records.specs.declared.StepRead.{StepRead}
-use Rattle.verdicts.specs.declared.VerdictRead.{VerdictRead}
-use Rattle.records.specs.declared.Write.{Write}
-use Rattle.records.specs.declared.Write.TheVariants.{Written, Malformed, Full}
 use Rattle.records.specs.Format.{bytes_of, content, record_of}
 use Rattle.records.specs.Steps.{decode_step, encode_step, fields_of, outer_tag, step_read}
 use Rattle.verdicts.specs.Verdicts.{Decoded, IsVerdict, NoVerdict, can_answer, decode_verdict, encode_verdict, verdict_fields, verdict_formed, verdict_read, verdict_tag}
-use Rattle.records.specs.Writing.{Writing, step_writing, write_code, writing}
+use Rattle.records.specs.Writing.{Writing, step_writing, writing}
 use Rattle.verdicts.specs.Verdicts.{verdict_writing}
 use Rattle.records.specs.RoundTrip.{all_fit, are_bytes}
 use Rattle.records.proofs.Listed.{step_long}
@@ -48,80 +44,74 @@ use Rattle.verdicts.proofs.RoundTrip.{verdict-round_trip}
 use Rattle.arrays.specs.Arrays.{pad}
 use Rattle.arrays.proofs.Lists.{length-pad, pad-laid}
 use Rattle.ledger.proofs.Names.{padded-pad}
-use Rattle.guarantees.specs.Guarantees.{OnBuffers, StepFits, VerdictFits, step_found, verdict_found}
+use Rattle.guarantees.specs.Guarantees.{OnBuffers, StepFits, VerdictFits}
 
 -- ---- any record
 
--- which of a writer's answers it is
-abbrev write_case : Write → ℕ
-write_case (Written n) = 0
-write_case Malformed = 1
-write_case Full = 2
-
 -- a value that a reader takes is written where there is room; another is malformed
-writing-fits : (bytes buffer : List ℕ) → length bytes ≤ length buffer → writing true bytes buffer ≡ record { answer = Written (length bytes); buffer = over bytes buffer }
+writing-fits : (bytes buffer : List ℕ) → length bytes ≤ length buffer → writing true bytes buffer ≡ record { answer = Ok (length bytes); buffer = over bytes buffer }
 writing-fits bytes buffer h = rw (le-ltb (length buffer) (length bytes) h)
 
-writing-written : (taken : Bool) (bytes buffer : List ℕ) (n : ℕ) → (writing taken bytes buffer).answer ≡ Written n → (taken ≡ true) × (take n (writing taken bytes buffer).buffer ≡ bytes)
+writing-written : (taken : Bool) (bytes buffer : List ℕ) (n : ℕ) → (writing taken bytes buffer).answer ≡ Ok n → (taken ≡ true) × (take n (writing taken bytes buffer).buffer ≡ bytes)
 writing-written true bytes buffer n e = (refl, by (ltb (length buffer) (length bytes)) e)
   where
     outcome : Bool → Writing
-    outcome b = cond b (record { answer = Full; buffer = buffer }) (record { answer = Written (length bytes); buffer = over bytes buffer })
+    outcome b = cond b (record { answer = Err Full; buffer = buffer }) (record { answer = Ok (length bytes); buffer = over bytes buffer })
 
-    by : (b : Bool) → (outcome b).answer ≡ Written n → take n (outcome b).buffer ≡ bytes
-    by true e = absurd (let z : 2 ≡ 0 = ap write_case e in omega (arith, z))
-    by false e = ap (λ (k : ℕ). take k (over bytes buffer)) (sym (ap write_code e)) ∙ take-append_seam bytes (drop (length bytes) buffer)
-writing-written false bytes buffer n e = absurd (let z : 1 ≡ 0 = ap write_case e in omega (arith, z))
+    by : (b : Bool) → (outcome b).answer ≡ Ok n → take n (outcome b).buffer ≡ bytes
+    by true e = absurd cc
+    by false e = let same : n ≡ length bytes = cc in ap (λ (k : ℕ). take k (over bytes buffer)) same ∙ take-append_seam bytes (drop (length bytes) buffer)
+writing-written false bytes buffer n e = absurd cc
 
-writing_malformed : (taken : Bool) (bytes buffer : List ℕ) → (writing taken bytes buffer).answer ≡ Malformed → taken ≡ false
+writing_malformed : (taken : Bool) (bytes buffer : List ℕ) → (writing taken bytes buffer).answer ≡ Err Malformed → taken ≡ false
 writing_malformed true bytes buffer e = absurd (by (ltb (length buffer) (length bytes)) e)
   where
     outcome : Bool → Writing
-    outcome b = cond b (record { answer = Full; buffer = buffer }) (record { answer = Written (length bytes); buffer = over bytes buffer })
+    outcome b = cond b (record { answer = Err Full; buffer = buffer }) (record { answer = Ok (length bytes); buffer = over bytes buffer })
 
-    by : (b : Bool) → (outcome b).answer ≡ Malformed → ⊥
-    by true e = let z : ◌≡◌ {A = ℕ} 2 1 = ap write_case e in omega (arith, z)
-    by false e = let z : ◌≡◌ {A = ℕ} 0 1 = ap write_case e in omega (arith, z)
+    by : (b : Bool) → (outcome b).answer ≡ Err Malformed → ⊥
+    by true e = cc
+    by false e = cc
 writing_malformed false bytes buffer e = refl
 
-module _ {A R : Type 0} (Fits : A → Type 0) (taken : A → Bool) (encode : A → List ℕ) (read : List ℕ → R) (found : A → R) (refusal : R) where
+module _ {A : Type 0} (Fits : A → Type 0) (taken : A → Bool) (encode : A → List ℕ) (read : List ℕ → Option A) where
   -- what the round trip on bytes has to say: what is written is bytes, and is read; what is read is written as its bytes; all else is refused
   pub record Undoes : Type 0 where
     pub bytes : (v : A) → are_bytes (encode v) ≡ true
-    pub reads : (v : A) → Fits v → taken v ≡ true → read (encode v) ≡ found v
-    pub writes : (v : A) (bs : List ℕ) → are_bytes bs ≡ true → read bs ≡ found v → (taken v ≡ true) × (encode v ≡ bs)
-    pub outcome : (bs : List ℕ) → are_bytes bs ≡ true → (read bs ≡ refusal) ⊎ ((v : A) × Fits v × (read bs ≡ found v))
+    pub reads : (v : A) → Fits v → taken v ≡ true → read (encode v) ≡ Some v
+    pub writes : (v : A) (bs : List ℕ) → are_bytes bs ≡ true → read bs ≡ Some v → (taken v ≡ true) × (encode v ≡ bs)
+    pub outcome : (bs : List ℕ) → are_bytes bs ≡ true → (read bs ≡ None) ⊎ ((v : A) × Fits v × (read bs ≡ Some v))
 
   module _ (u : Undoes) where
     abbrev write : A → List ℕ → Writing
     write v buffer = writing (taken v) (encode v) buffer
 
-    writes_read_lem : (v : A) (bytes buffer : List ℕ) → are_bytes bytes ≡ true → read bytes ≡ found v → length bytes ≤ length buffer
-        → write v buffer ≡ record { answer = Written (length bytes); buffer = over bytes buffer }
+    writes_read_lem : (v : A) (bytes buffer : List ℕ) → are_bytes bytes ≡ true → read bytes ≡ Some v → length bytes ≤ length buffer
+        → write v buffer ≡ record { answer = Ok (length bytes); buffer = over bytes buffer }
     writes_read_lem v bytes buffer good r room =
         let w = u.writes v bytes good r in
         ap (λ (b : Bool). writing b (encode v) buffer) w.0 ∙ ap (λ (e : List ℕ). writing true e buffer) w.1 ∙ writing-fits bytes buffer room
 
     refuses_bytes_lem : (bytes : List ℕ) → are_bytes bytes ≡ true
-        → ((v : A) → Fits v → (buffer : List ℕ) → length bytes ≤ length buffer → write v buffer ≡ record { answer = Written (length bytes); buffer = over bytes buffer } → ⊥)
-        → read bytes ≡ refusal
+        → ((v : A) → Fits v → (buffer : List ℕ) → length bytes ≤ length buffer → write v buffer ≡ record { answer = Ok (length bytes); buffer = over bytes buffer } → ⊥)
+        → read bytes ≡ None
     refuses_bytes_lem bytes good never = go (u.outcome bytes good)
       where
-        go : (read bytes ≡ refusal) ⊎ ((v : A) × Fits v × (read bytes ≡ found v)) → read bytes ≡ refusal
+        go : (read bytes ≡ None) ⊎ ((v : A) × Fits v × (read bytes ≡ Some v)) → read bytes ≡ None
         go (inl e) = e
         go (inr w) = absurd (never w.0 w.1 bytes (omega arith) (writes_read_lem w.0 bytes bytes good w.2 (omega arith)))
 
-    refuses_value_lem : (v : A) → Fits v → (buffer : List ℕ) → (write v buffer).answer ≡ Malformed → (bytes : List ℕ) → are_bytes bytes ≡ true → read bytes ≡ found v → ⊥
+    refuses_value_lem : (v : A) → Fits v → (buffer : List ℕ) → (write v buffer).answer ≡ Err Malformed → (bytes : List ℕ) → are_bytes bytes ≡ true → read bytes ≡ Some v → ⊥
     refuses_value_lem v fit buffer e bytes good r = false≢true (sym (writing_malformed (taken v) (encode v) buffer e) ∙ (u.writes v bytes good r).0)
 
-    unread_refused : (v : A) → Fits v → (buffer : List ℕ) → ((bytes : List ℕ) → are_bytes bytes ≡ true → read bytes ≡ found v → ⊥) → (write v buffer).answer ≡ Malformed
+    unread_refused : (v : A) → Fits v → (buffer : List ℕ) → ((bytes : List ℕ) → are_bytes bytes ≡ true → read bytes ≡ Some v → ⊥) → (write v buffer).answer ≡ Err Malformed
     unread_refused v fit buffer never = by (taken v) refl
       where
-        by : (b : Bool) → taken v ≡ b → (writing b (encode v) buffer).answer ≡ Malformed
+        by : (b : Bool) → taken v ≡ b → (writing b (encode v) buffer).answer ≡ Err Malformed
         by true e = absurd (never (encode v) (u.bytes v) (u.reads v fit e))
         by false e = refl
 
-    pub on_buffers : OnBuffers Fits write read found refusal
+    pub on_buffers : OnBuffers Fits write read
     on_buffers = record {
       reads_written = λ v fit buffer n e. let w = writing-written (taken v) (encode v) buffer n e in ap read w.1 ∙ u.reads v fit w.0;
       writes_read = writes_read_lem;
@@ -220,17 +210,12 @@ step_tags t (LIST x) = (lit< tt, refl)
 step_tags t (LOOK c x) = (lit< tt, refl)
 step_tags t COLLECT = (lit< tt, refl)
 
--- whether something was read
-abbrev is_read : Reading → Bool
-is_read Read = true
-is_read NotRead = false
-
 -- what was read of some bytes, by what they say
 abbrev StepIs : List ℕ → Request → Type 0
-StepIs bs q = (p : Step) → step_read q ≡ step_found p → (can_say (request_of p) ≡ true) × (step_bytes p ≡ bs)
+StepIs bs q = (p : Step) → step_read q ≡ Some p → (can_say (request_of p) ≡ true) × (step_bytes p ≡ bs)
 
 abbrev StepOutcome : Request → Type 0
-StepOutcome q = (step_read q ≡ step_read Unreadable) ⊎ ((p : Step) × StepFits p × (step_read q ≡ step_found p))
+StepOutcome q = (step_read q ≡ None) ⊎ ((p : Step) × StepFits p × (step_read q ≡ Some p))
 
 module _ (bs : List ℕ) (good : are_bytes bs ≡ true) where
   -- a step in its places that the bytes say
@@ -241,8 +226,8 @@ module _ (bs : List ℕ) (good : are_bytes bs ≡ true) where
       (ap can_say (list-asks t k l few) ∙ w.0, ap (encode_step t k) (padded-take limits.names l few) ∙ w.2)
 
   step_is : (q : Request) → decode_step bs ≡ q → StepIs bs q
-  step_is Unreadable e p r = absurd (false≢true (ap (λ (s : StepRead). is_read s.reading) r))
-  step_is (Asked t k l) e p r = subst (λ (p : Step). (can_say (request_of p) ≡ true) × (step_bytes p ≡ bs)) (ap (λ (s : StepRead). s.step) r) (laid-step t k l e)
+  step_is Unreadable e p r = absurd cc
+  step_is (Asked t k l) e p r = let same : step_of t k l ≡ p = cc in subst (λ (p : Step). (can_say (request_of p) ≡ true) × (step_bytes p ≡ bs)) same (laid-step t k l e)
 
   step_outcome : (q : Request) → decode_step bs ≡ q → StepOutcome q
   step_outcome Unreadable e = inl refl
@@ -251,14 +236,14 @@ module _ (bs : List ℕ) (good : are_bytes bs ≡ true) where
       let few = few-names t k l w.0 in
       inr (step_of t k l, record { numbers = ap (all_fit (fields_of t k)) (padded-take limits.names l few) ∙ w.1; places = padded_long limits.names l few }, refl)
 
-step-reads : (p : Step) → StepFits p → can_say (request_of p) ≡ true → step_read (decode_step (step_bytes p)) ≡ step_found p
+step-reads : (p : Step) → StepFits p → can_say (request_of p) ≡ true → step_read (decode_step (step_bytes p)) ≡ Some p
 step-reads p fit e =
     let s = said p e in
     ap step_read (step-round_trip.reads_written p.time p.kind (names_of p.list) s.1 fit.numbers)
-    ∙ ap (λ (l : NameList). step_found (record { time = p.time; kind = p.kind; list = l })) (names-back p.list fit.places s.0)
+    ∙ ap (λ (l : NameList). Some (record { time = p.time; kind = p.kind; list = l })) (names-back p.list fit.places s.0)
 
-pub steps_on_buffers_lem : OnBuffers StepFits step_writing (λ bytes. step_read (decode_step bytes)) step_found (step_read Unreadable)
-steps_on_buffers_lem = on_buffers StepFits (λ p. can_say (request_of p)) step_bytes (λ bytes. step_read (decode_step bytes)) step_found (step_read Unreadable) (record {
+pub steps_on_buffers_lem : OnBuffers StepFits step_writing (λ bytes. step_read (decode_step bytes))
+steps_on_buffers_lem = on_buffers StepFits (λ p. can_say (request_of p)) step_bytes (λ bytes. step_read (decode_step bytes)) (record {
   bytes = λ p. record_bytes (outer_tag p.kind) (fields_of p.time p.kind) (names_of p.list) (step_tags p.time p.kind).0 (step_tags p.time p.kind).1;
   reads = step-reads;
   writes = λ p bs good r. step_is bs good (decode_step bs) refl p r;
@@ -293,10 +278,10 @@ verdict_tags Collected = refl
 
 -- the answer and the list of a verdict that was read
 abbrev VerdictIs : List ℕ → Decoded → Type 0
-VerdictIs bs d = (v : Verdict) → verdict_read d ≡ verdict_found v → (can_answer v ≡ true) × (verdict_bytes v ≡ bs)
+VerdictIs bs d = (v : Verdict) → verdict_read d ≡ Some v → (can_answer v ≡ true) × (verdict_bytes v ≡ bs)
 
 abbrev VerdictOutcome : Decoded → Type 0
-VerdictOutcome d = (verdict_read d ≡ verdict_read NoVerdict) ⊎ ((v : Verdict) × VerdictFits v × (verdict_read d ≡ verdict_found v))
+VerdictOutcome d = (verdict_read d ≡ None) ⊎ ((v : Verdict) × VerdictFits v × (verdict_read d ≡ Some v))
 
 module _ (bs : List ℕ) (good : are_bytes bs ≡ true) where
   laid-verdict : (a : Answer) (l : List ℕ) → decode_verdict bs ≡ IsVerdict a l → (can_answer (verdict_in a l) ≡ true) × (verdict_bytes (verdict_in a l) ≡ bs)
@@ -309,8 +294,8 @@ module _ (bs : List ℕ) (good : are_bytes bs ≡ true) where
       )
 
   verdict_is : (d : Decoded) → decode_verdict bs ≡ d → VerdictIs bs d
-  verdict_is NoVerdict e v r = absurd (false≢true (ap (λ (s : VerdictRead). is_read s.reading) r))
-  verdict_is (IsVerdict a l) e v r = subst (λ (v : Verdict). (can_answer v ≡ true) × (verdict_bytes v ≡ bs)) (ap (λ (s : VerdictRead). s.verdict) r) (laid-verdict a l e)
+  verdict_is NoVerdict e v r = absurd cc
+  verdict_is (IsVerdict a l) e v r = let same : verdict_in a l ≡ v = cc in subst (λ (v : Verdict). (can_answer v ≡ true) × (verdict_bytes v ≡ bs)) same (laid-verdict a l e)
 
   verdict_outcome : (d : Decoded) → decode_verdict bs ≡ d → VerdictOutcome d
   verdict_outcome NoVerdict e = inl refl
@@ -319,15 +304,15 @@ module _ (bs : List ℕ) (good : are_bytes bs ≡ true) where
       let few = few-objects a l w.0 in
       inr (verdict_in a l, record { numbers = ap (all_fit (verdict_fields a)) (padded-take limits.places l few) ∙ w.1; places = padded_long limits.places l few }, refl)
 
-verdict-reads : (v : Verdict) → VerdictFits v → can_answer v ≡ true → verdict_read (decode_verdict (verdict_bytes v)) ≡ verdict_found v
+verdict-reads : (v : Verdict) → VerdictFits v → can_answer v ≡ true → verdict_read (decode_verdict (verdict_bytes v)) ≡ Some v
 verdict-reads v fit e =
     let laid = is_padded v.list.count v.list.objects in
     let formed = verdict_formed v.answer (objects_of v.list) in
     ap verdict_read (verdict-round_trip.reads_written v.answer (objects_of v.list) (and_right laid formed e) fit.numbers)
-    ∙ ap (λ (l : ObjectList). verdict_found (record { answer = v.answer; list = l })) (objects-back v.list fit.places (and_left laid formed e))
+    ∙ ap (λ (l : ObjectList). Some (record { answer = v.answer; list = l })) (objects-back v.list fit.places (and_left laid formed e))
 
-pub verdicts_on_buffers_lem : OnBuffers VerdictFits verdict_writing (λ bytes. verdict_read (decode_verdict bytes)) verdict_found (verdict_read NoVerdict)
-verdicts_on_buffers_lem = on_buffers VerdictFits can_answer verdict_bytes (λ bytes. verdict_read (decode_verdict bytes)) verdict_found (verdict_read NoVerdict) (record {
+pub verdicts_on_buffers_lem : OnBuffers VerdictFits verdict_writing (λ bytes. verdict_read (decode_verdict bytes))
+verdicts_on_buffers_lem = on_buffers VerdictFits can_answer verdict_bytes (λ bytes. verdict_read (decode_verdict bytes)) (record {
   bytes = λ v. record_bytes verdict_tag (verdict_fields v.answer) (objects_of v.list) (lit< tt) (verdict_tags v.answer);
   reads = verdict-reads;
   writes = λ v bs good r. verdict_is bs good (decode_verdict bs) refl v r;

@@ -7,6 +7,7 @@ use Prim.Native.Nat.{ℕ, ◌-◌, ◌≤◌}
 use lib.Dec.{ltb}
 use lib.ListN.{length}
 use borrow.Author.Tests.{ltb-false}
+use Rattle.std.specs.Prelude.{Err}
 use Rattle.rules.specs.Limits.{limits}
 use Rattle.ledger.specs.declared.Ledger.{Ledger}
 use Rattle.ledger.specs.declared.StepAnswer.{StepAnswer}
@@ -18,7 +19,7 @@ use Rattle.ledger_numbers.proofs.Exact.{numbers-exact}
 use Rattle.records.specs.Steps.{decode_step}
 use Rattle.replay.specs.Front.{answer_to, answer_bytes}
 use Rattle.replay.specs.Replay.{Told, cut, tell, replay_of}
-use Rattle.desk.specs.declared.Sale.TheVariants.{Refused}
+use Rattle.desk.specs.declared.SaleError.{SaleError}
 use Rattle.desk.specs.Sale.{sale_of}
 use Rattle.desk.proofs.NoRate.{sale-exact}
 use Rattle.exports.specs.Codec.{step_size, verdict_size, kind_of}
@@ -54,10 +55,10 @@ refused_step_lem ledger numbers list verdict objects f =
     by false p false false false false =
         back ledger answer.ledger (ltb-false (length ledger) ledger_size p) (ap (λ (a : StepAnswer). a.ledger) (number-refused (ledger_from ledger) (request_in (kind_of numbers) numbers list) f))
 
-pub refused_sale_lem : (ledger : List ℕ) (time : ℕ) (sheet : List ℕ) (currency hold fare : ℕ) (sale : List ℕ) (n : ℕ)
-    → (sale_of (ledger_from ledger) time sheet (narrow currency) hold fare).sale ≡ Refused n → (sell ledger time sheet currency hold fare sale).ledger ≡ ledger
+pub refused_sale_lem : (ledger : List ℕ) (time : ℕ) (sheet : List ℕ) (currency hold fare : ℕ) (sale : List ℕ) (e : SaleError)
+    → (sale_of (ledger_from ledger) time sheet (narrow currency) hold fare).sale ≡ Err e → (sell ledger time sheet currency hold fare sale).ledger ≡ ledger
 unfolding sell
-refused_sale_lem ledger time sheet currency hold fare sale n e = by (ltb (length ledger) ledger_size) refl (ltb (length sale) 2)
+refused_sale_lem ledger time sheet currency hold fare sale e q = by (ltb (length ledger) ledger_size) refl (ltb (length sale) 2)
   where
     short : SaleCall
     short = unsold ledger time sheet currency hold fare sale
@@ -68,7 +69,7 @@ refused_sale_lem ledger time sheet currency hold fare sale n e = by (ltb (length
     by false p true = refl
     by false p false =
         back ledger (sale_of (ledger_from ledger) time sheet (narrow currency) hold fare).ledger (ltb-false (length ledger) ledger_size p)
-        ((sale-exact (ledger_from ledger) time sheet (narrow currency) hold fare).refused n e).1
+        ((sale-exact (ledger_from ledger) time sheet (narrow currency) hold fare).refused e q).1
 
 -- records judged on a ledger that is not sound leave it
 unsound-stays : (l : Ledger) (r : List ℕ) → is_sound l ≡ false → (answer_to l r).ledger ≡ l

@@ -9,6 +9,8 @@ use lib.Dec.{ltb}
 use lib.ListN.{length, take, drop}
 use lib.Seq.{take-append_seam}
 use borrow.Author.Tests.{le-ltb}
+use Rattle.std.specs.Prelude.{Result, Ok, Err}
+use Rattle.std.specs.Result.{result_unwrap_or}
 use Rattle.fields.specs.Fields.{over}
 use Rattle.rules.specs.Lists.{all, has, rising_above}
 use Rattle.rules.specs.Limits.{limits}
@@ -22,12 +24,11 @@ use Rattle.ledger.specs.declared.Ledger.{Ledger}
 use Rattle.ledger.specs.Ledger.{lay, view, is_sound}
 use Rattle.ledger.specs.SoundLaw.{Whole}
 use Rattle.ledger.proofs.SoundLaw.{lay-sound}
-use Rattle.image.specs.declared.Reading.TheVariants.{Read, Unsound, Malformed}
-use Rattle.image.specs.declared.ImageRead.{ImageRead}
-use Rattle.image.specs.declared.ImageWrite.{ImageWrite}
-use Rattle.image.specs.declared.ImageWrite.TheVariants.{Written, Unsound as NotSound, Full}
+use Rattle.image.specs.declared.LoadError.{LoadError}
+use Rattle.image.specs.declared.LoadError.TheVariants.{Unsound, Malformed}
+use Rattle.image.specs.declared.SaveError.TheVariants.{Unsound as NotSound, Full}
 use Rattle.image.specs.Image.{image_of}
-use Rattle.image.specs.Reading.{ledger_in, is_image, refused, read_of, read_code}
+use Rattle.image.specs.Reading.{ledger_in, is_image, read_of, read_code, ledger_beside}
 use Rattle.image.specs.Writing.{Writing, put, writing_of}
 use Rattle.image.specs.RoundTrip.{Fits}
 use Rattle.image.proofs.RoundTrip.{image_round_trip}
@@ -36,69 +37,59 @@ use Rattle.image_history.proofs.AfterLoad.{after_load_lem}
 use Rattle.guarantees.specs.Guarantees.{number_on, collect_at, collected_by, loaded_after, led_to}
 use Rattle.guarantees.proofs.Sequences as sequences
 
--- which of the writer's answers it is, and the bytes that it tells
-abbrev write_case : ImageWrite → ℕ
-write_case (Written n) = 0
-write_case NotSound = 1
-write_case Full = 2
-
-abbrev told_bytes : ImageWrite → ℕ
-told_bytes (Written n) = n
-told_bytes NotSound = 0
-told_bytes Full = 0
-
 -- what was written is the image, and the ledger is sound
-put_written : (bytes buffer : List ℕ) (n : ℕ) → (put bytes buffer).answer ≡ Written n → take n (put bytes buffer).buffer ≡ bytes
+put_written : (bytes buffer : List ℕ) (n : ℕ) → (put bytes buffer).answer ≡ Ok n → take n (put bytes buffer).buffer ≡ bytes
 put_written bytes buffer n = by (ltb (length buffer) (length bytes))
   where
     outcome : Bool → Writing
-    outcome b = cond b (record { answer = Full; buffer = buffer }) (record { answer = Written (length bytes); buffer = over bytes buffer })
+    outcome b = cond b (record { answer = Err Full; buffer = buffer }) (record { answer = Ok (length bytes); buffer = over bytes buffer })
 
-    by : (b : Bool) → (outcome b).answer ≡ Written n → take n (outcome b).buffer ≡ bytes
-    by true e = absurd (let z : 2 ≡ 0 = ap write_case e in omega (arith, z))
-    by false e = ap (λ (k : ℕ). take k (over bytes buffer)) (sym (ap told_bytes e)) ∙ take-append_seam bytes (drop (length bytes) buffer)
+    by : (b : Bool) → (outcome b).answer ≡ Ok n → take n (outcome b).buffer ≡ bytes
+    by true e = absurd cc
+    by false e = let same : n ≡ length bytes = cc in ap (λ (k : ℕ). take k (over bytes buffer)) same ∙ take-append_seam bytes (drop (length bytes) buffer)
 
-pub reads_written_lem : (l : Ledger) → Whole l → Fits (view l) → (buffer : List ℕ) (n : ℕ) → (writing_of l buffer).answer ≡ Written n
-    → read_of (take n (writing_of l buffer).buffer) ≡ record { reading = Read; ledger = l }
+pub reads_written_lem : (l : Ledger) → Whole l → Fits (view l) → (buffer : List ℕ) (n : ℕ) → (writing_of l buffer).answer ≡ Ok n
+    → read_of (take n (writing_of l buffer).buffer) ≡ Ok l
 unfolding writing_of
 reads_written_lem l w fit buffer n = by (is_sound l) refl
   where
     outcome : Bool → Writing
-    outcome b = cond b (put (image_of (view l)) buffer) (record { answer = NotSound; buffer = buffer })
+    outcome b = cond b (put (image_of (view l)) buffer) (record { answer = Err NotSound; buffer = buffer })
 
-    by : (b : Bool) → is_sound l ≡ b → (outcome b).answer ≡ Written n → read_of (take n (outcome b).buffer) ≡ record { reading = Read; ledger = l }
+    by : (b : Bool) → is_sound l ≡ b → (outcome b).answer ≡ Ok n → read_of (take n (outcome b).buffer) ≡ Ok l
     by true good e = ap read_of (put_written (image_of (view l)) buffer n e) ∙ image_round_trip.reads_written l w fit good
-    by false good e = absurd (let z : ◌≡◌ {A = ℕ} 1 0 = ap write_case e in omega (arith, z))
+    by false good e = absurd cc
 
-pub writes_read_lem : (l : Ledger) (bytes buffer : List ℕ) → are_bytes bytes ≡ true → read_of bytes ≡ record { reading = Read; ledger = l } → length bytes ≤ length buffer
-    → writing_of l buffer ≡ record { answer = Written (length bytes); buffer = over bytes buffer }
+pub writes_read_lem : (l : Ledger) (bytes buffer : List ℕ) → are_bytes bytes ≡ true → read_of bytes ≡ Ok l → length bytes ≤ length buffer
+    → writing_of l buffer ≡ record { answer = Ok (length bytes); buffer = over bytes buffer }
 unfolding writing_of
 writes_read_lem l bytes buffer good e room =
     let w = image_round_trip.writes_read bytes l good e in
     rw w.0 (ap (λ (b : List ℕ). put b buffer) w.1 ∙ rw (le-ltb (length buffer) (length bytes) room))
 
--- the reader's three outcomes
+-- the reader's outcomes
 module _ (bytes : List ℕ) where
   abbrev loaded : Ledger
   loaded = ledger_in (drop 3 bytes)
 
-  abbrev answer : Bool → Bool → ImageRead
-  answer b t = cond b (cond t (record { reading = Read; ledger = loaded }) (refused Unsound)) (refused Malformed)
+  abbrev Beside : Result Ledger LoadError → Type 0
+  Beside r = (read_code r ≡ 0 → ⊥) → result_unwrap_or r (lay fresh) ≡ lay fresh
 
-  pub beside_refusal_lem : (read_code (read_of bytes).reading ≡ 0 → ⊥) → (read_of bytes).ledger ≡ lay fresh
-  unfolding read_of
-  beside_refusal_lem = by (is_image bytes) (is_sound loaded)
+  pub beside_refusal_lem : Beside (read_of bytes)
+  beside_refusal_lem = by (read_of bytes)
     where
-      by : (b t : Bool) → (read_code (answer b t).reading ≡ 0 → ⊥) → (answer b t).ledger ≡ lay fresh
-      by true true n = absurd (n refl)
-      by true false n = refl
-      by false t n = refl
+      by : (r : Result Ledger LoadError) → Beside r
+      by (Ok l) n = absurd (n refl)
+      by (Err e) n = refl
 
-  pub read-sound : is_sound (read_of bytes).ledger ≡ true
+  pub read-sound : is_sound (ledger_beside bytes) ≡ true
   unfolding read_of
   read-sound = by (is_image bytes) (is_sound loaded) refl
     where
-      by : (b t : Bool) → is_sound loaded ≡ t → is_sound (answer b t).ledger ≡ true
+      outcome : Bool → Bool → Ledger
+      outcome b t = result_unwrap_or (cond b (cond t (Ok loaded) (Err Unsound)) (Err Malformed)) (lay fresh)
+
+      by : (b t : Bool) → is_sound loaded ≡ t → is_sound (outcome b t) ≡ true
       by true true e = e
       by true false e = lay-sound fresh (sound-fresh limits)
       by false t e = lay-sound fresh (sound-fresh limits)

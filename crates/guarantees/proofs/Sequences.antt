@@ -9,6 +9,7 @@ use native.Mathlib.Omega.{arith}
 use lib.Dec.{eqb, leb}
 use lib.ListN.{length}
 use borrow.Author.Tests.{eq-eqb, le-leb}
+use Rattle.std.specs.Prelude.{Ok}
 use Rattle.rules.specs.declared.Verdict.{Verdict}
 use Rattle.rules.specs.Limits.{limits}
 use Rattle.rules.specs.Lists.{has, none, rising_above}
@@ -31,7 +32,6 @@ use Rattle.ledger.specs.Ledger.{lay, view}
 use Rattle.ledger.proofs.Demand3.{delivered}
 use Rattle.ledger.proofs.SoundLaw.{view-lay}
 use Rattle.ledger.proofs.AnyLedger.{number-sound}
-use Rattle.desk.specs.declared.Sale.TheVariants.{Charged}
 use Rattle.desk.specs.Sale.{sale_of}
 use Rattle.desk.proofs.NoRate.{no_rate_lem}
 use Rattle.guarantees.specs.Guarantees.{collect_at, collected_at, kept_by, number_on}
@@ -87,6 +87,6 @@ module _ (asks : List Ask) where
 
 pub never_charged : (asks : List Ask) (time : ℕ) (sheet : List ℕ) (currency hold fare : ℕ)
     → (none (rates_at time (history_of asks) currency hold) ≡ true) ⊎ ((0 < hold) × (held_at time (history_of asks) hold ≡ false))
-    → (n : ℕ) → (sale_of (kept_by asks) time sheet currency hold fare).sale ≡ Charged n → ⊥
+    → (n : ℕ) → (sale_of (kept_by asks) time sheet currency hold fare).sale ≡ Ok n → ⊥
 never_charged asks time sheet currency hold fare (inl e) n q = (no_rate_lem asks time currency hold sheet fare).no_rate e n q
 never_charged asks time sheet currency hold fare (inr e) n q = (no_rate_lem asks time currency hold sheet fare).no_hold e.0 e.1 n q

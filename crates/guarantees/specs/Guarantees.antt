@@ -45,7 +45,7 @@ use Rattle.rules.specs.Depot as depot
 use Rattle.rules.specs.OutOfOrder as out_of_order
 use Rattle.fields.specs.declared.WriteError.TheVariants.{Malformed}
 use Rattle.records.specs.Steps.{fields_of, encode_step, decode_step, step_read}
-use Rattle.verdicts.specs.Verdicts.{verdict_fields, verdict_formed, encode_verdict, decode_verdict, verdict_read, NoVerdict}
+use Rattle.verdicts.specs.Verdicts.{verdict_fields, verdict_formed, encode_verdict, decode_verdict, verdict_read}
 use Rattle.records.specs.Writing.{Writing, step_writing}
 use Rattle.verdicts.specs.Verdicts.{verdict_writing}
 use Rattle.records.specs.RoundTrip.{all_fit, are_bytes, StepRoundTrip}
@@ -125,18 +125,18 @@ pub record Demand1 : Type 0 where
 -- records and names are read and written, each undoing the other, and all else is refused.
 
 -- Reading and writing on what the operations promise, a value and a buffer; `Fits`: the value's numbers fit their types
-pub record OnBuffers {A R : Type 0} (Fits : A → Type 0) (write : A → List ℕ → Writing) (read : List ℕ → R) (found : A → R) (refusal : R) : Type 0 where
+pub record OnBuffers {A : Type 0} (Fits : A → Type 0) (write : A → List ℕ → Writing) (read : List ℕ → Option A) : Type 0 where
   -- what was written into a buffer is read as the value
-  pub reads_written : (v : A) → Fits v → (buffer : List ℕ) (n : ℕ) → (write v buffer).answer ≡ Ok n → read (take n (write v buffer).buffer) ≡ found v
+  pub reads_written : (v : A) → Fits v → (buffer : List ℕ) (n : ℕ) → (write v buffer).answer ≡ Ok n → read (take n (write v buffer).buffer) ≡ Some v
   -- what was read is written, where there is room, as the bytes that it was read from; those beyond stay
-  pub writes_read : (v : A) (bytes buffer : List ℕ) → are_bytes bytes ≡ true → read bytes ≡ found v → length bytes ≤ length buffer
+  pub writes_read : (v : A) (bytes buffer : List ℕ) → are_bytes bytes ≡ true → read bytes ≡ Some v → length bytes ≤ length buffer
       → write v buffer ≡ record { answer = Ok (length bytes); buffer = over bytes buffer }
   -- the reader refuses the bytes that no value is written as
   pub refuses_bytes : (bytes : List ℕ) → are_bytes bytes ≡ true
       → ((v : A) → Fits v → (buffer : List ℕ) → length bytes ≤ length buffer → write v buffer ≡ record { answer = Ok (length bytes); buffer = over bytes buffer } → ⊥)
-      → read bytes ≡ refusal
+      → read bytes ≡ None
   -- "Writers answer 2 for what no reader takes", and for nothing else
-  pub refuses_value : (v : A) → Fits v → (buffer : List ℕ) → ((write v buffer).answer ≡ Err Malformed) ↔ ((bytes : List ℕ) → are_bytes bytes ≡ true → read bytes ≡ found v → ⊥)
+  pub refuses_value : (v : A) → Fits v → (buffer : List ℕ) → ((write v buffer).answer ≡ Err Malformed) ↔ ((bytes : List ℕ) → are_bytes bytes ≡ true → read bytes ≡ Some v → ⊥)
 
 -- a typed step and a typed verdict, as their types have them
 pub record StepFits (p : Step) : Type 0 where
@@ -146,12 +146,6 @@ pub record StepFits (p : Step) : Type 0 where
 pub record VerdictFits (v : Verdict) : Type 0 where
   pub numbers : all_fit (verdict_fields v.answer) (objects_of v.list) ≡ true
   pub places : length v.list.objects ≡ limits.places
-
-abbrev pub step_found : Step → Option Step
-step_found p = Some p
-
-abbrev pub verdict_found : Verdict → Option Verdict
-verdict_found v = Some v
 
 pub record Demand2 : Type 0 where
   -- an accepted step answers and leaves what the rules say, laid out in its places; a ledger is sound exactly when it is the layout of a sound state
@@ -170,8 +164,8 @@ pub record Demand2 : Type 0 where
   pub steps : StepRoundTrip
   pub verdicts : VerdictRoundTrip
   pub names : RoundTrip
-  pub steps_on_buffers : OnBuffers StepFits step_writing (λ bytes. step_read (decode_step bytes)) step_found (step_read Unreadable)
-  pub verdicts_on_buffers : OnBuffers VerdictFits verdict_writing (λ bytes. verdict_read (decode_verdict bytes)) verdict_found (verdict_read NoVerdict)
+  pub steps_on_buffers : OnBuffers StepFits step_writing (λ bytes. step_read (decode_step bytes))
+  pub verdicts_on_buffers : OnBuffers VerdictFits verdict_writing (λ bytes. verdict_read (decode_verdict bytes))
   -- one week at the depot, on the rules and through the ledger's own step
   pub week : depot.WeekHolds
   pub week_on_ledger : on_ledger.WeekHolds
@@ -304,8 +298,9 @@ pub record Request12 : Type 0 where
   -- which room is enough; and an index is said exactly where the logs agree before it and not at it, verdict by verdict and in bytes
   pub checked : (l : Ledger) (trace log : List ℕ) → LogChecked l trace log
   -- "A refused image gives that refusal's number", and an image that is read its ledger
-  pub refused_image : (image trace log : List ℕ) → (read_code (read_of image).reading ≡ 0 → ⊥) → answered_from (read_of image) trace log ≡ RefusedImage (read_code (read_of image).reading)
-  pub read_image : (image trace log : List ℕ) → read_code (read_of image).reading ≡ 0 → answered_from (read_of image) trace log ≡ CheckedOn (checked_of (read_of image).ledger trace log)
+  pub refused_image : (image trace log : List ℕ) → (read_code (read_of image) ≡ 0 → ⊥)
+      → (e : LoadError) × (answered_from (read_of image) trace log ≡ Err e) × (error_number e ≡ read_code (read_of image))
+  pub read_image : (image trace log : List ℕ) → read_code (read_of image) ≡ 0 → answered_from (read_of image) trace log ≡ Ok (checked_of (ledger_beside image) trace log)
   -- so from what was written of a ledger all is found that is found from the ledger itself
   pub saved_image : (l : Ledger) → ledger.Whole l → Fits (view l) → (room : List ℕ) (n : ℕ) → (writing_of l room).answer ≡ Ok n → (trace log : List ℕ)
       → answered_from (read_of (take n (writing_of l room).buffer)) trace log ≡ Ok (checked_of l trace log)
