@@ -1,15 +1,15 @@
 -- Reading and writing undo each other on what the operations promise, a value and a buffer: once for any record, then for steps and verdicts.
 -- Assumes nothing.
 use mathlib.Core.Path.{◌≡◌, refl, sym, ap, subst, ◌∙◌}
-use mathlib.Core.Logic.{◌⊎◌, inl, inr, ◌↔◌, ⊎_elim}
-use mathlib.Core.Bool.{Bool, true, false, cond, ◌&&◌, false≢true}
+use mathlib.Core.Logic.{◌⊎◌, inl, inr, ⊎_elim}
+use mathlib.Core.Bool.{Bool, true, false, cond, false≢true}
 use mathlib.Core.List.{List, [], ◌∷◌, ◌++◌}
 use Prim.Native.Nat.{ℕ, zero, suc, ◌≤◌, ◌<◌}
 use native.Mathlib.Omega.{arith}
 use lib.Dec.{eqb, ltb, leb, lit<}
 use lib.ListN.{length, take, drop}
 use lib.Seq.{length-take-le, take-append_seam}
-use borrow.Author.Tests.{eqb-true, ltb-true, ltb-false, le-ltb, leb-true}
+use borrow.Author.Tests.{eqb-true, ltb-true, ltb-false, le-ltb}
 use Rattle.std.specs.Prelude.{Option, Some, None, Ok, Err}
 use Rattle.fields.specs.declared.WriteError.TheVariants.{Malformed, Full}
 use Rattle.fields.specs.Bytes.{be, words}
@@ -29,13 +29,12 @@ use Rattle.rules.specs.Request.{Request, Asked, Unreadable}
 use Rattle.rules.specs.Table.{well_formed}
 use Rattle.rules.specs.Typed.{can_say, is_padded, name_list, names_of, object_list, objects_of, padded, request_of}
 use Rattle.rules.proofs.Lists.{and_left, and_right, and_both, decide, true-false}
-use Rattle.rules.proofs.Typed.{list-asks, padded-from, padded_is, padded-room, padded-said, padded-take}
+use Rattle.rules.proofs.Typed.{list-asks, padded-room, padded-said, padded-take}
 use Rattle.records.specs.declared.Field.{Field}
 use Rattle.records.specs.Format.{bytes_of, content, record_of}
 use Rattle.records.specs.Steps.{decode_step, encode_step, fields_of, outer_tag, step_read}
-use Rattle.verdicts.specs.Verdicts.{Decoded, IsVerdict, NoVerdict, can_answer, decode_verdict, encode_verdict, verdict_fields, verdict_formed, verdict_read, verdict_tag}
+use Rattle.verdicts.specs.Verdicts.{Decoded, IsVerdict, NoVerdict, can_answer, decode_verdict, encode_verdict, verdict_fields, verdict_formed, verdict_read, verdict_tag, verdict_writing}
 use Rattle.records.specs.Writing.{Writing, step_writing, writing}
-use Rattle.verdicts.specs.Verdicts.{verdict_writing}
 use Rattle.records.specs.RoundTrip.{all_fit, are_bytes}
 use Rattle.records.proofs.Listed.{step_long}
 use Rattle.records.proofs.RoundTripRecords.{below_all, empty, first_empty, rising-short}

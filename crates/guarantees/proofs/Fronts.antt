@@ -1,6 +1,6 @@
 -- The step on bytes: a refused record leaves the ledger; the end, torn and full leave all.
 -- Assumes nothing.
-use mathlib.Core.Path.{◌≡◌, refl, sym, ap, subst, ◌∙◌}
+use mathlib.Core.Path.{◌≡◌, refl, sym, ap, ◌∙◌}
 use mathlib.Core.Logic.{◌↔◌}
 use mathlib.Core.Bool.{Bool, true, false, cond}
 use mathlib.Core.List.{List}
@@ -8,7 +8,7 @@ use Prim.Native.Nat.{ℕ, ◌<◌}
 use native.Mathlib.Omega.{arith}
 use lib.Dec.{ltb}
 use lib.ListN.{length, take}
-use borrow.Author.Tests.{ltb-true, ltb-false, lt-ltb}
+use borrow.Author.Tests.{ltb-true, lt-ltb}
 use Rattle.fields.specs.declared.Next.{Next}
 use Rattle.fields.specs.declared.Next.TheVariants.{End, Torn, Record}
 use Rattle.fields.specs.Fields.{next_of}
@@ -16,9 +16,7 @@ use Rattle.rules.specs.Request.{Unreadable}
 use Rattle.records.specs.Steps.{decode_step}
 use Rattle.ledger.specs.declared.Ledger.{Ledger}
 use Rattle.ledger.specs.declared.StepAnswer.{StepAnswer}
-use Rattle.ledger.specs.Step.{judged}
 use Rattle.ledger.proofs.AnyLedger.{number-refused, no_step-refused}
-use Rattle.replay.specs.declared.Front.{Front}
 use Rattle.replay.specs.declared.Front.TheVariants.{Full}
 use Rattle.replay.specs.Front.{answer_bytes, front_code, Judgement, unchanged, judged_with, record_step, step_at, front_step}
 use Rattle.guarantees.specs.Guarantees.{number_on}

@@ -1,6 +1,6 @@
 -- Demand 3 and "no rate, no charge", as the page says them of the ledger that a caller keeps.
 -- Assumes nothing.
-use mathlib.Core.Path.{◌≡◌, refl, sym, ap, subst, ◌∙◌}
+use mathlib.Core.Path.{◌≡◌, sym, ap, subst, ◌∙◌}
 use mathlib.Core.Logic.{◌⊎◌, inl, inr}
 use mathlib.Core.Bool.{true, false}
 use mathlib.Core.List.{List, []}
@@ -15,8 +15,8 @@ use Rattle.rules.specs.Limits.{limits}
 use Rattle.rules.specs.Lists.{has, none, rising_above}
 use Rattle.rules.specs.Request.{Ask}
 use Rattle.rules.specs.Sound.{sound}
-use Rattle.rules.specs.State.{State, fresh}
-use Rattle.rules.specs.Step.{Reply, accepts, answers, collected, longest_verdict, reply, settle, size, verdict}
+use Rattle.rules.specs.State.{State}
+use Rattle.rules.specs.Step.{Reply, accepts, answers, longest_verdict, reply, settle, size, verdict}
 use Rattle.rules.specs.Typed.{objects_of}
 use Rattle.rules.specs.Words.{listed, stored}
 use Rattle.rules.specs.History.{dead_at, listed_at, stored_at}
@@ -28,7 +28,7 @@ use Rattle.rules.proofs.Table.{granted-reply, verdict-zero}
 use Rattle.rules.proofs.Typed.{padded-take}
 use Rattle.rules.proofs.Whole.{whole}
 use Rattle.ledger.specs.declared.Ledger.{Ledger}
-use Rattle.ledger.specs.Ledger.{lay, view}
+use Rattle.ledger.specs.Ledger.{view}
 use Rattle.ledger.proofs.Demand3.{delivered}
 use Rattle.ledger.proofs.SoundLaw.{view-lay}
 use Rattle.ledger.proofs.AnyLedger.{number-sound}

@@ -14,7 +14,7 @@
 --   manifests::reaches    reach_of                         listing::read_listing    listing_of
 --   image::write_image    writing_of                       image::read_image        read_of
 --   log_check::check_log  checked_of                       log_check::check_log_from   answered_from, of read_of
-use Rattle.std.specs.Prelude.{◌≡◌, ◌⊎◌, ◌↔◌, Bool, true, false, not, ◌&&◌, List, [], ◌∷◌, ℕ, suc, ◌≤◌, ◌<◌, eqb, leb, length, take, Option, None, Some, Result, Ok, Err}
+use Rattle.std.specs.Prelude.{◌≡◌, ◌⊎◌, ◌↔◌, Bool, true, false, not, ◌&&◌, List, [], ◌∷◌, ℕ, suc, ◌≤◌, ◌<◌, eqb, leb, length, take, Option, None, Some, Ok, Err}
 use Rattle.store_names.specs.RoundTrip.{RoundTrip}
 use Rattle.fields.specs.declared.Next.TheVariants.{Torn, Record}
 use Rattle.fields.specs.Fields.{over, next_of}
@@ -45,9 +45,8 @@ use Rattle.rules.specs.Depot as depot
 use Rattle.rules.specs.OutOfOrder as out_of_order
 use Rattle.fields.specs.declared.WriteError.TheVariants.{Malformed}
 use Rattle.records.specs.Steps.{fields_of, encode_step, decode_step, step_read}
-use Rattle.verdicts.specs.Verdicts.{verdict_fields, verdict_formed, encode_verdict, decode_verdict, verdict_read}
+use Rattle.verdicts.specs.Verdicts.{verdict_fields, verdict_formed, encode_verdict, decode_verdict, verdict_read, verdict_writing}
 use Rattle.records.specs.Writing.{Writing, step_writing}
-use Rattle.verdicts.specs.Verdicts.{verdict_writing}
 use Rattle.records.specs.RoundTrip.{all_fit, are_bytes, StepRoundTrip}
 use Rattle.verdicts.specs.RoundTrip.{VerdictRoundTrip}
 use Rattle.objects.specs.Occupancy.{OccupancyByWords}
