@@ -14,6 +14,8 @@
 --   manifests::reaches    reach_of                         listing::read_listing    listing_of
 --   image::write_image    writing_of                       image::read_image        read_of
 --   log_check::check_log  checked_of                       log_check::check_log_from   answered_from, of read_of
+--
+-- `suc` is imported for the edits in must-fail/.
 use Rattle.std.specs.Prelude.{◌≡◌, ◌⊎◌, ◌↔◌, Bool, true, false, not, ◌&&◌, List, [], ◌∷◌, ℕ, suc, ◌≤◌, ◌<◌, eqb, leb, length, take, Option, None, Some, Ok, Err}
 use Rattle.store_names.specs.RoundTrip.{RoundTrip}
 use Rattle.fields.specs.declared.Next.TheVariants.{Torn, Record}
