@@ -14,8 +14,7 @@ use lib.Seq.{drop-cons, take-suc-set, drop-set-lt}
 use borrow.Author.Tests.{lt-ltb, le-ltb}
 use Rattle.ledger.specs.declared.Ledger.{Ledger}
 use Rattle.desk.specs.declared.Entry.{Entry}
-use Rattle.desk.specs.declared.Filled.{Filled}
-use Rattle.desk.specs.Card.{filled, entries, after, card_of, answer_of}
+use Rattle.desk.specs.Card.{Filled, filled, entries, after, card_of, answer_of}
 
 module _ (time hold count : ℕ) (ledger : Ledger) (xs : List Entry) where
   pub record Progress (i : ℕ) (l : Ledger) (ys : List Entry) : Type 0 where

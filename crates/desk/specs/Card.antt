@@ -4,9 +4,13 @@ use Rattle.std.specs.Prelude.{cond, List, [], ◌∷◌, ℕ, zero, suc, Option,
 use Rattle.ledger.specs.declared.Ledger.{Ledger}
 use Rattle.desk.specs.declared.Looked.{Looked}
 use Rattle.desk.specs.declared.Entry.{Entry}
-use Rattle.desk.specs.declared.Filled.{Filled}
 use Rattle.desk.specs.declared.RowFilled.{RowFilled}
 use Rattle.desk.specs.Look.{found_code, found_object, look_of}
+
+-- an entry that is filled in, and the ledger after its look
+pub record Filled : Type 0 where
+  pub entry : Entry
+  pub ledger : Ledger
 
 -- "each look's code and object (0 if refused)": the entry's currency stays
 abbrev pub filled_by : Entry → Looked → Filled

@@ -4,8 +4,9 @@
 
 ghost use Rattle.std.specs.Prelude.{◌≡◌, true, ◌≤◌};
 ghost use Rattle.sheets.specs.Sheets.{sheet_formed};
+ghost use Rattle.rules.specs.Typed.{request_of};
 ghost use Rattle.desk.specs.Charge.{largest_fare, charge_of};
-ghost use Rattle.desk.specs.Look.{found_in, look_of};
+ghost use Rattle.desk.specs.Look.{asked, found_in, look_of};
 ghost use Rattle.desk.specs.Sale.{error_number, refused_sale, sale_by, sale_of};
 ghost use Rattle.desk.specs.Card.{filled, card_of, answer_of, row_of};
 
@@ -72,19 +73,26 @@ fn found_in(answer: Answer) -> Result<u64, u8>
     }
 }
 
-// One LOOK on any ledger.
-pub fn look(ledger: Ledger, time: u64, currency: u16, hold: u64) -> Looked
-    ensures { result ≡ look_of ledger time currency hold }
+// The step that asks a LOOK, which has no list.
+fn look_step(time: u64, currency: u16, hold: u64) -> Step
+    ensures { request_of result ≡ asked time currency hold }
 {
-    let step = Step {
+    Step {
         time,
         kind: Kind::Look { currency, hold },
         list: NameList {
             count: 0,
             names: [0; NAMES],
         },
-    };
-    let answered = ledger.step(step);
+    }
+}
+
+// One LOOK on any ledger.
+#[tactic(auto, unfolding(crate::specs::Look::look_of))]
+pub fn look(ledger: Ledger, time: u64, currency: u16, hold: u64) -> Looked
+    ensures { result ≡ look_of ledger time currency hold }
+{
+    let answered = ledger.step(look_step(time, currency, hold));
     Looked {
         found: found_in(answered.verdict.answer),
         ledger: answered.ledger,
@@ -161,30 +169,16 @@ pub struct Entry {
     pub object: u64,
 }
 
-#[derive(Clone, Copy)]
-pub struct Filled {
-    pub entry: Entry,
-    pub ledger: Ledger,
-}
-
-// One entry, filled in by a look, and the ledger after it.
-#[tactic(auto, unfolding(crate::specs::Card::filled))]
-fn fill_entry(ledger: Ledger, time: u64, hold: u64, entry: Entry) -> Filled
-    ensures { result ≡ filled ledger time hold entry }
+// Fills in one entry by a LOOK, and hands the ledger on. `look` would copy the ledger once more for each entry.
+#[tactic(auto, unfolding(crate::specs::Card::filled, crate::specs::Look::look_of))]
+fn fill_entry(ledger: Ledger, time: u64, hold: u64, entry: &mut Entry) -> Ledger
+    ensures { record { entry = entry.new; ledger = result } ≡ filled ledger time hold entry.old }
 {
-    let looked = look(ledger, time, entry.currency, hold);
-    let (code, object) = match looked.found {
-        Ok(object) => (0, object),
-        Err(number) => (number, 0),
-    };
-    Filled {
-        entry: Entry {
-            code,
-            object,
-            ..entry
-        },
-        ledger: looked.ledger,
-    }
+    let answered = ledger.step(look_step(time, entry.currency, hold));
+    let found = found_in(answered.verdict.answer);
+    entry.code = found.err().unwrap_or(0);
+    entry.object = found.unwrap_or(0);
+    answered.ledger
 }
 
 // Fills in the first `count` entries in order, and hands the ledger on from look to look and back. None is a count above the
@@ -203,9 +197,7 @@ pub fn fill_card(
     }
     let mut next = ledger;
     for entry in &mut card[..count] {
-        let filled = fill_entry(next, time, hold, *entry);
-        *entry = filled.entry;
-        next = filled.ledger;
+        next = fill_entry(next, time, hold, entry);
     }
     Some(next)
 }

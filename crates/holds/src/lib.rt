@@ -13,6 +13,7 @@ ghost use Rattle.holds.specs.Holds.{holds_of, lay_holds, is_laid, has_number, na
 use rules::{HOLDS, Hold};
 
 // The first `count` places hold; the others are all zero.
+// stays: a count beside the places, since `Ledger::is_sound` promises its answer for any count and any places, and there is no heap.
 #[derive(Clone, Copy)]
 pub struct Holds {
     pub count: usize,

@@ -15,6 +15,8 @@ use holds::Holds;
 use rules::{MANIFESTS, NAMES};
 
 // The names are the first `count` places; the others are 0.
+// stays: a count beside the places, here and in `Manifests`, since `Ledger::is_sound` promises its answer for any count and any
+// places, and there is no heap.
 #[derive(Clone, Copy)]
 pub struct KeptManifest {
     pub number: u64,

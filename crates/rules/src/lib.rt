@@ -81,6 +81,7 @@ pub enum Kind {
 }
 
 // The object numbers that a manifest names: the first `count` places; the others are 0.
+// stays: a count beside the places, since `is_well_formed` promises its answer for any count and any places, and there is no heap.
 #[derive(Clone, Copy)]
 pub struct NameList {
     pub count: usize,
@@ -113,6 +114,7 @@ pub enum Answer {
 }
 
 // Object numbers beside an answer: the first `count` places; the others are 0.
+// stays: a count beside the places, since `write_verdict` promises its answer for any count and any places, and there is no heap.
 #[derive(Clone, Copy)]
 pub struct ObjectList {
     pub count: usize,

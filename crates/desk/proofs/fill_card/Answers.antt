@@ -22,9 +22,9 @@ loop-entry-preserved c =
     let first : length (take a.count a.card.now) ≡ a.count = length-take-le a.count a.card.now c.if-card-count.false in
     let beyond = drop a.count a.card.now in
     let within : l.entry-index < length l.entry-items = omega arith in
-    let is = c.fill_entry-filled.ensures ∙ ap (filled l.next a.time a.hold) (sym (get_or-append l.entry-items beyond _ l.entry-index within)) in
+    let is = c.fill_entry-next.ensures ∙ ap (filled l.next a.time a.hold) (sym (get_or-append l.entry-items beyond _ l.entry-index within)) in
     rw (← set-append_left)
-    (steps a.time a.hold a.count a.ledger a.card.now l.entry-index l.next (l.entry-items ++ beyond) _ l.invariant (omega arith) (omega (arith, length-append l.entry-items beyond)) c.fill_entry-filled.result is)
+    (steps a.time a.hold a.count a.ledger a.card.now l.entry-index l.next (l.entry-items ++ beyond) _ l.invariant (omega arith) (omega (arith, length-append l.entry-items beyond)) (record { entry = c.fill_entry-next.new.entry; ledger = c.fill_entry-next.result }) is)
 
 pub returns : goal.returns
 returns c =
