@@ -3,7 +3,6 @@
 #![tactic(auto)]
 
 use ledger::Ledger;
-use log_check::Checked;
 use std::fs::File;
 use std::io::Read;
 use std::rt::Files;
@@ -15,10 +14,10 @@ const LONGEST: usize = 32768;
 // A byte more: a file that fills it is too long.
 const ROOM: usize = LONGEST + 1;
 
-fn say_checked(rt: &impl Print, found: Checked) {
-    match found {
-        Checked::Agree => say(rt, b"agree\n"),
-        Checked::Differs(index) => say_line(rt, b"differs at ", index as u64),
+fn say_difference(rt: &impl Print, difference: Option<usize>) {
+    match difference {
+        None => say(rt, b"agree\n"),
+        Some(index) => say_line(rt, b"differs at ", index as u64),
     }
 }
 
@@ -40,7 +39,7 @@ fn check_open(
         return;
     };
     if n < ROOM && k < ROOM {
-        say_checked(
+        say_difference(
             rt,
             log_check::check_log(Ledger::fresh(), &trace[..n], &log[..k]),
         );
