@@ -1,13 +1,11 @@
 -- What stands at the front of bytes as an option, the places of an object, and bytes that were laid. Assumes nothing.
-use mathlib.Core.Path.{◌≡◌, refl, sym, ap, ◌∙◌}
+use mathlib.Core.Path.{◌≡◌, refl, ap}
 use mathlib.Core.Bool.{Bool, true, false, not, cond}
-use mathlib.Core.List.{List, [], ◌++◌}
+use mathlib.Core.List.{List, []}
 use Prim.Native.Nat.{ℕ}
-use lib.ListN.{length, drop}
 use borrow.Author.Tests.{eq-eqb, ne_eqb}
 use Rattle.std.specs.Prelude.{Option, None, Some, is_some}
 use Rattle.std.specs.Option.{option_map}
-use Rattle.fields.specs.Fields.{over}
 use Rattle.rules.specs.declared.Object.{Object}
 use Rattle.rules.specs.State.{occupied}
 use Rattle.image.specs.declared.rows.Found.{Found}
@@ -15,7 +13,6 @@ use Rattle.image.specs.Rows.{Cells, row_of, row_at}
 use Rattle.image.specs.Format.{object_row, object_cells, is_object_at, object_from}
 use Rattle.image.specs.Image.{place_bytes}
 use Rattle.image.specs.Reading.{object_in, spot_at}
-use Rattle.image.specs.Code.{Put}
 
 -- ---- options
 

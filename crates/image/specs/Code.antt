@@ -2,21 +2,15 @@
 use Rattle.std.specs.Prelude.{◌≡◌, cond, ◌&&◌, List, ◌++◌, ℕ, eqb, length, drop, Option, None, Some}
 use Rattle.std.specs.Option.{option_map}
 use Rattle.fields.specs.Fields.{over}
-use Rattle.rules.specs.declared.Object.{Object}
-use Rattle.rules.specs.declared.Hold.{Hold}
 use Rattle.rules.specs.State.{Manifest}
-use Rattle.objects.specs.declared.Objects.{Objects}
 use Rattle.manifests.specs.declared.KeptManifest.{KeptManifest}
-use Rattle.manifests.specs.declared.Manifests.{Manifests}
-use Rattle.manifests.specs.Manifests.{lay_manifest, lay_manifests}
-use Rattle.holds.specs.declared.Holds.{Holds}
-use Rattle.holds.specs.Holds.{lay_holds}
+use Rattle.manifests.specs.Manifests.{lay_manifest}
 use Rattle.ledger.specs.declared.Ledger.{Ledger}
 use Rattle.image.specs.declared.rows.Form.{Form}
 use Rattle.image.specs.declared.rows.Line.{Line}
 use Rattle.image.specs.declared.rows.Found.{Found}
 use Rattle.image.specs.Rows.{Format, Cells, Rows, found_as}
-use Rattle.image.specs.Reading.{objects_of, is_headed, rows_end, ledger_in}
+use Rattle.image.specs.Reading.{is_headed, rows_end, ledger_in}
 
 -- the form that the code has of a row
 abbrev pub format_of : {n : ℕ} → Form n → Format

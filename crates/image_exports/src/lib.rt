@@ -22,6 +22,7 @@ fn write_code(written: Result<usize, SaveError>) -> u64
 }
 
 // Writes the image of the ledger that the numbers say at the start of `out`.
+#[tactic(auto, unfolding(crate::specs::Calls::write_image))]
 pub fn cuudhaqil_write_image(ledger: &[u64], out: &mut [u8]) -> u64
     ensures { write_image ledger.now out.old ≡ record { answer = result; left = out.new } }
 {
@@ -33,6 +34,7 @@ pub fn cuudhaqil_write_image(ledger: &[u64], out: &mut [u8]) -> u64
 }
 
 // Reads all the bytes as one image: the ledger's numbers, or the fresh one's beside a refusal.
+#[tactic(auto, unfolding(crate::specs::Calls::read_image))]
 pub fn cuudhaqil_read_image(image: &[u8], ledger: &mut [u64]) -> u64
     ensures { read_image image.now ledger.old ≡ record { answer = result; left = ledger.new } }
 {

@@ -39,7 +39,7 @@ unfolding is_object_at conj
 returns-then-at-place c =
     let v = c.args.columns in
     elim c.then-at-place.branch [
-      then-at-place-via-then-at-place w ↦ rw (ne_eqb (get_or v 0 0) c.args.place w.if-at-place.true)
+      | then-at-place-via-then-at-place w ↦ rw (ne_eqb (get_or v 0 0) c.args.place w.if-at-place.true)
       | then-at-place-via-else-at-place+then-named-gt1 w ↦ rw (lt-leb (get_or v 5 0) 1 w.if-named-gt1.true, and-false (leb (get_or v 2 0) 1), and-false (eqb (get_or v 0 0) c.args.place))
     ]
 

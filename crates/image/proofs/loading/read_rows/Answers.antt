@@ -1,6 +1,6 @@
 -- `image::loading::read_rows` meets its contract: each group of rows begins where the one before it ends. Assumes nothing.
 use Rattle.std.specs.Prelude.{unwrap_or}
-use Rattle.std.proofs.Common.{◌≡◌, ℕ, ◌+◌, List, Some, None, length, drop, replicate, sym, ap, ◌∙◌}
+use Rattle.std.proofs.Common.{◌≡◌, ℕ, ◌+◌, List, Some, None, drop, replicate, sym, ap, ◌∙◌}
 use borrow.Author.Tests.{ne_eqb}
 use Rattle.rules.specs.Lists.{conj}
 use Rattle.rules.specs.Limits.{limits, manifest_limit}
@@ -11,10 +11,8 @@ use Rattle.manifests.proofs.Places.{first-laid, first_items}
 use Rattle.holds.specs.declared.Holds.{Holds}
 use Rattle.holds.specs.Holds.{no_hold, lay_holds}
 use Rattle.ledger.specs.declared.Ledger.{Ledger}
-use Rattle.image.specs.Rows.{rows_from}
 use Rattle.image.specs.Format.{edition_row, clock_row, collected_row, edition}
-use Rattle.image.specs.Reading.{number_at, hold_at, manifest_at, places_of, objects_of, kept_of, holds_of, clock_at, collected_at, rows_begin, kept_begin, holds_begin, rows_end, ledger_in}
-use Rattle.image.specs.Code.{found_manifest, Filled}
+use Rattle.image.specs.Reading.{number_at, places_of, objects_of, kept_of, holds_of, clock_at, collected_at, rows_begin, kept_begin, holds_begin, rows_end, ledger_in}
 use Rattle.image.proofs.Laying.{tail}
 use Rattle.image.proofs.Heads.{headed_by, rows_unheaded, rows_left, rows_all-read}
 use Rattle.image.proofs.Filling.{filled_manifests, filled_holds}
