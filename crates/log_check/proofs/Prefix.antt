@@ -1,14 +1,13 @@
 -- When bytes start with others.
 -- Assumes nothing.
 use mathlib.Core.Path.{◌≡◌, refl, ap₂}
-use mathlib.Core.Logic.{◌⊎◌, inl, inr}
 use mathlib.Core.Bool.{Bool, true, false, ◌&&◌, false≢true}
 use mathlib.Core.List.{List, [], ◌∷◌, ◌++◌}
 use Prim.Native.Nat.{ℕ}
 use lib.Dec.{eqb}
 use lib.ListN.{length, drop}
 use borrow.Author.Tests.{eqb-true, eq-eqb}
-use Rattle.rules.proofs.Lists.{and_both, and_left, and_right, decide}
+use Rattle.rules.proofs.Lists.{and_both, and_left, and_right}
 use Rattle.log_check.specs.Check.{is_prefix}
 
 -- what starts with v is v and the rest
@@ -22,13 +21,6 @@ pub prefix_append : (v rest : List ℕ) → is_prefix v (v ++ rest) ≡ true
 unfolding is_prefix
 prefix_append [] rest = refl
 prefix_append (v ∷ vs) rest = and_both (eqb v v) _ (eq-eqb v v refl) (prefix_append vs rest)
-
-pub prefix_not : (v bs : List ℕ) → (v ++ drop (length v) bs ≡ bs → ⊥) → is_prefix v bs ≡ false
-prefix_not v bs other = step (decide (is_prefix v bs))
-  where
-    step : (is_prefix v bs ≡ true) ⊎ (is_prefix v bs ≡ false) → is_prefix v bs ≡ false
-    step (inl e) = absurd (other (prefix_split v bs e))
-    step (inr e) = e
 
 -- one part behind another
 pub prefix_behind : (v w bs : List ℕ) → is_prefix (v ++ w) bs ≡ (is_prefix v bs && is_prefix w (drop (length v) bs))

@@ -71,12 +71,5 @@ module _ (l : Ledger) where
   read-asks Unreadable p f e = absurd (none-some p e)
   read-asks (Asked t k names) p f e = ap (λ (r : Step). judged l (request_of r)) (sym (ap (λ (o : Option Step). unwrap_or o p) e)) ∙ ap (judged l) (list-asks t k names f)
 
-  refused-asks : (q : Request) → step_read q ≡ None → judged l Unreadable ≡ judged l q
-  refused-asks Unreadable e = refl
-  refused-asks (Asked t k names) e = absurd (none-some _ (sym e))
-
   pub read_judged : (bs : List ℕ) (p : Step) → step_read (decode_step bs) ≡ Some p → judged l (request_of p) ≡ judged l (decode_step bs)
   read_judged bs p e = read-asks (decode_step bs) p (decoded_fits bs) e
-
-  pub refused_judged : (bs : List ℕ) → step_read (decode_step bs) ≡ None → judged l Unreadable ≡ judged l (decode_step bs)
-  refused_judged bs e = refused-asks (decode_step bs) e
