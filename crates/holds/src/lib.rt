@@ -57,12 +57,11 @@ impl Holds {
         }
     }
 
-    // The places that hold.
+    // The places that hold, all where the count is beyond them.
     fn held(&self) -> &[Hold]
-        requires { self.now.count ≤ limits.holds }
         ensures { result.now ≡ holds_of self.now }
     {
-        &self.items[..self.count]
+        &self.items[..self.count.min(HOLDS)]
     }
 
     // Whether the places behind the holds are all zero, of any value.
@@ -76,7 +75,6 @@ impl Holds {
     // Whether the numbers rise strictly and are not 0.
     #[tactic(auto, unfolding(rules::specs::Lists::rising_above))]
     pub fn is_rising(self) -> bool
-        requires { self.count ≤ limits.holds }
         ensures { result ≡ rising_above 0 (numbers (holds_of self)) }
     {
         let mut last = 0;
@@ -91,7 +89,6 @@ impl Holds {
 
     // Whether every hold is live at the time.
     pub fn all_live(self, time: u64) -> bool
-        requires { self.count ≤ limits.holds }
         ensures { result ≡ all (live time) (holds_of self) }
     {
         self.held().iter().all(|hold| is_live(time, *hold))
@@ -99,7 +96,6 @@ impl Holds {
 
     // Whether a hold has this number.
     pub fn has_number(self, number: u64) -> bool
-        requires { self.count ≤ limits.holds }
         ensures { result ≡ has_number (holds_of self) number }
     {
         self.held().iter().any(|hold| number == hold.number)
@@ -107,7 +103,6 @@ impl Holds {
 
     // Whether a hold names this manifest.
     pub fn names_manifest(self, manifest: u64) -> bool
-        requires { self.count ≤ limits.holds }
         ensures { result ≡ names_manifest (holds_of self) manifest }
     {
         self.held().iter().any(|hold| manifest == hold.manifest)
@@ -115,7 +110,6 @@ impl Holds {
 
     // The manifest that the hold of this number names, 0 where there is none.
     pub fn manifest_by(self, number: u64) -> u64
-        requires { self.count ≤ limits.holds }
         ensures { result ≡ manifest_by (holds_of self) number }
     {
         self.held()
@@ -126,8 +120,7 @@ impl Holds {
 
     // The holds that pass the test.
     fn retained<F: Fn(&Hold) -> bool>(self, keeps: F) -> Self
-        requires few { self.count ≤ limits.holds }
-        requires test { F.IsAlwaysCallable keeps }
+        requires { F.IsAlwaysCallable keeps }
         ensures { (p : Hold → Bool) → Tests F.Fn p keeps → result ≡ lay_holds (keep p (holds_of self)) }
     {
         let mut next = Holds::none();
@@ -137,7 +130,6 @@ impl Holds {
 
     // The holds that are live at the time.
     pub fn live(self, time: u64) -> Self
-        requires { self.count ≤ limits.holds }
         ensures { result ≡ lay_holds (keep (live time) (holds_of self)) }
     {
         self.retained(|hold| is_live(time, *hold))
@@ -145,7 +137,6 @@ impl Holds {
 
     // The holds but the one of this number.
     pub fn release(self, number: u64) -> Self
-        requires { self.count ≤ limits.holds }
         ensures { result ≡ lay_holds (keep (other number) (holds_of self)) }
     {
         self.retained(|hold| hold.number != number)
@@ -153,14 +144,14 @@ impl Holds {
 
     // The holds, with a new expiry for the one of this number.
     pub fn renew(self, number: u64, expiry: u64) -> Self
-        requires { self.count ≤ limits.holds }
         ensures { result ≡ lay_holds (map (renewed number expiry) (holds_of self)) }
     {
+        let held = self.held();
         let mut next = Holds::none();
-        for (i, hold) in self.held().iter().enumerate() {
+        for (i, hold) in held.iter().enumerate() {
             next.items[i] = with_expiry(*hold, number, expiry);
         }
-        next.count = self.count;
+        next.count = held.len();
         next
     }
 

@@ -6,4 +6,4 @@ use Rattle.holds.specs.Holds.{no_hold}
 use Rattle.holds.proofs.Holds.renew.Given as goal
 
 abbrev pub invariant-loop-i : goal.invariant-loop-i
-invariant-loop-i l = Filled 8 no_hold (renewed l.number l.expiry) l.hold-items l.i l.next.items
+invariant-loop-i l = Filled 8 no_hold (renewed l.number l.expiry) l.held l.i l.next.items
