@@ -25,9 +25,6 @@ returns-in-Err c =
     c.refused.ensures
     ∙ turned_away s.self s.time (HOLD s.hold s.manifest s.expiry) [] st.requires _ (w.in-Err.ensures s.expiry) (not_0 c.in-Err.refusal)
 
-pub live-live-requires : goal.live-live-requires
-live-live-requires c = let st = c in holds.few st.args.self.holds (sound_parts st.args.self st.requires.is_sound).holds
-
 pub insert-requires : goal.insert-requires
 insert-requires c =
     let n = c in

@@ -14,12 +14,6 @@ use Rattle.ledger.proofs.Ledger.hold_row.Goals.{After-has_number, Joined-else-ma
 use Rattle.ledger.proofs.Ledger.hold_row.Goals.{else-manifest-current-via-else-manifest-current, else-manifest-current-via-then-manifest-current+else-not-names_manifest}
 use Rattle.ledger.proofs.Ledger.hold_row.Goals as goal
 
-pub live-live-requires : goal.live-live-requires
-live-live-requires c = holds.few c.args.self.holds (sound_parts c.args.self c.requires).holds
-
-pub has_number-requires : goal.has_number-requires
-has_number-requires c = let st = c in live-few st.args.self st.requires st.args.time c.live-live.ensures
-
 -- whether the hold is live
 there : (c : After-has_number) → is_live c.args.time (view c.args.self) c.args.hold ≡ c.has_number.result
 there c =
@@ -35,12 +29,6 @@ returns-then-has_number c e =
 
 pub current-current-requires : goal.current-current-requires
 current-current-requires c = let st = c in (sound_parts st.args.self st.requires).manifests
-
-pub names_manifest-requires : goal.names_manifest-requires
-names_manifest-requires c =
-    let a = c in
-    let st = c in
-    live-few st.args.self st.requires st.args.time a.live-live.ensures
 
 pub returns-then-not-names_manifest : goal.returns-then-not-names_manifest
 returns-then-not-names_manifest c e =

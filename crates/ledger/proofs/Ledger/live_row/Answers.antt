@@ -9,12 +9,6 @@ use Rattle.ledger.proofs.Live.{live-few, live-number}
 use Rattle.ledger.proofs.Ledger.live_row.Goals.{then-hold-eq0-via-then-hold-eq0, then-hold-eq0-via-else-hold-eq0+then-has_number}
 use Rattle.ledger.proofs.Ledger.live_row.Goals as goal
 
-pub live-requires : goal.live-requires
-live-requires c = holds.few _ (sound_parts _ c.requires).holds
-
-pub has_number-requires : goal.has_number-requires
-has_number-requires c = live-few _ c.requires _ c.live.ensures
-
 pub returns-then-hold-eq0 : goal.returns-then-hold-eq0
 unfolding first_of
 returns-then-hold-eq0 c = elim c.then-hold-eq0.branch [

@@ -18,12 +18,6 @@ returns-then-hold-eq0 c =
     let s = st.args in
     c.current.ensures ∙ read-current s.time s.self s.hold (sized s.self _ st.well_formed.0) st.requires c.if-hold-eq0.true
 
-pub live-live-requires : goal.live-live-requires
-live-live-requires c = let st = c in holds.few st.args.self.holds (sound_parts st.args.self st.requires).holds
-
-pub manifest_by-requires : goal.manifest_by-requires
-manifest_by-requires c = let st = c in live-few st.args.self st.requires st.args.time c.live-live.ensures
-
 pub numbered-requires : goal.numbered-requires
 numbered-requires c = let st = c in (sound_parts st.args.self st.requires).manifests
 

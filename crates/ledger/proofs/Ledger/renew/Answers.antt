@@ -23,12 +23,6 @@ returns-in-Err c =
     let s = st.args in
     c.refused.ensures ∙ turned_away s.self s.time (RENEW s.hold s.expiry) [] st.requires _ (w.in-Err.ensures ∙ sym (live-rows (view s.self) s.time s.hold s.expiry).0) (not_0 c.in-Err.refusal)
 
-pub live-live-requires : goal.live-live-requires
-live-live-requires c = let st = c in holds.few st.args.self.holds (sound_parts st.args.self st.requires.is_sound).holds
-
-pub renew-requires : goal.renew-requires
-renew-requires c = let st = c in live-few st.args.self st.requires.is_sound st.args.time c.live-live.ensures
-
 pub holding-self-requires : goal.holding-self-requires
 holding-self-requires c =
     let a = c in
