@@ -161,7 +161,7 @@ pub fn sell(
 
 // The route card
 
-// stays: the C interface: an entry of a card that C lends has the look's code, and its object or 0.
+// stays: the code and the object, or 0, beside one another: `card_of` promises both, as C's card has them.
 #[derive(Clone, Copy)]
 pub struct Entry {
     pub currency: u16,

@@ -7,6 +7,7 @@ use crate::{MALFORMED, NO_PLACE};
 use store_names::Name;
 
 // A name's kind.
+// stays: a kind is a number, as the C interface has no enum.
 const MANIFEST: u64 = 0;
 
 const OBJECT: u64 = 1;
@@ -16,7 +17,7 @@ const OBJECT: u64 = 1;
 pub fn cuudhaqil_read_name(name: &[u8], number: &mut [u64]) -> u64
     ensures { read_name name.now number.old ≡ record { answer = result; left = number.new } }
 {
-    if number.len() == 0 {
+    if number.is_empty() {
         return NO_PLACE;
     }
     let Some(v) = store_names::read_name(name) else {

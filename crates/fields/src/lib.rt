@@ -17,7 +17,7 @@ pub enum WriteError {
 }
 
 // What stands at the front of a trace.
-// stays: three answers that each caller tells apart; a Result of an Option is no plainer.
+// stays: three answers of which a run's end and a torn record are two; a Result of an Option is no plainer.
 #[derive(Clone, Copy, PartialEq, Eq)]
 pub enum Next {
     // nothing is left

@@ -109,6 +109,7 @@ impl Holds {
     }
 
     // The manifest that the hold of this number names, 0 where there is none.
+    // stays: 0 for none, since the definition `manifest_by` has it, on which `Ledger::read_by` rests.
     pub fn manifest_by(self, number: u64) -> u64
         ensures { result ≡ manifest_by (holds_of self) number }
     {

@@ -360,6 +360,7 @@ fn object_list(names: &[u64]) -> ObjectList
 
 impl Ledger {
     // A step of which rows 1 to 3 do not apply.
+    // stays: a match on the ten kinds, each with fields of its own: a table of functions would be no plainer.
     fn admitted(self, step: Step) -> StepAnswer
         requires { (Admitted self step.time step.kind (names_of step.list)) × (is_padded step.list.count step.list.names ≡ true) }
         ensures { result ≡ ruled (Asked step.time step.kind (names_of step.list)) self }

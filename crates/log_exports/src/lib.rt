@@ -8,6 +8,7 @@ use exports::NO_PLACE;
 use image::LoadError;
 use ledger::Ledger;
 
+// stays: numbers, as each call of the C interface answers with one.
 const AGREE: u64 = 0;
 
 const DIFFERS: u64 = 4;

@@ -152,6 +152,7 @@ impl Manifests {
     }
 
     // The kept manifest of this number; where there is none, manifest 0 with an empty list.
+    // stays: manifest 0 for none, since the definition `numbered` has it, on which `Ledger::read_by` rests.
     #[tactic(auto, using(crate::proofs::Places::few))]
     pub fn numbered(self, number: u64) -> KeptManifest
         requires { is_laid self ≡ true }
@@ -174,7 +175,7 @@ impl Manifests {
     }
 
     // The names in the places of the manifests, and how many each has. Whoever tests many objects lends them, and copies no manifest.
-    // stays: two loops: `from_fn` was tried, and the proof did not close, for it learns nothing of an array that a closure returns.
+    // stays: a loop: `from_fn` was tried, and the proof did not close, for it learns nothing of an array that a closure returns.
     pub fn names(self) -> [[u64; NAMES]; MANIFESTS]
         ensures { result ≡ names_at self.items }
     {
@@ -219,6 +220,7 @@ impl Manifests {
 // A sound list rises, so it is searched by halves; the loops are left by the label once the object is found.
 // stays: nested loops left by a label: a rule of the project (docs/DECISIONS.md, "Forms").
 // stays: low and high in place of `binary_search`: `reach_of` promises how many names are read.
+// stays: names and counts lent beside one another: `reach_of` is over both, and no manifest is copied.
 pub fn reaches(names: &[[u64; NAMES]], counts: &[usize], object: u64) -> Reach
     requires { Searchable names.now counts.now }
     ensures { result ≡ reach_of (lists_in names.now counts.now) object }

@@ -74,6 +74,7 @@ impl Objects {
     }
 
     // The currency of the stored object of this number, 0 where there is none.
+    // stays: 0 for none, here and in `currency_among`: the definitions `currency_in` and `currency_of` of the rules have it.
     #[tactic(auto, using(crate::proofs::Places::currency_among_lem))]
     pub fn currency_of(self, number: u64) -> u16
         ensures { result ≡ currency_in self.items number }
@@ -89,6 +90,7 @@ impl Objects {
     }
 
     // The highest number of the list that has this currency, 0 where there is none.
+    // stays: 0 for none, which is no object's number: the definition `maximum` has it.
     #[tactic(auto, unfolding(rules::specs::Lists::keep, rules::specs::Lists::maximum))]
     pub fn highest(self, currency: u16, list: &[u64]) -> u64
         ensures { result ≡ maximum (of_currency_in self.items currency list.now) }
@@ -237,6 +239,7 @@ pub fn all_among(numbers: &[u64], list: &[u64]) -> bool
 }
 
 // The currency beside the first of these numbers that is this one; 0 where none is.
+// stays: two slices beside one another: the definition `currency_among` is over both, and no object is copied.
 #[tactic(auto, using(crate::proofs::Places::beside_none), unfolding(crate::specs::Objects::beside))]
 pub fn currency_among(numbers: &[u64], currencies: &[u16], number: u64) -> u16
     requires { length numbers.now ≤ length currencies.now }

@@ -27,6 +27,7 @@ fn lowest_in(bits: u64) -> usize
 }
 
 // The lowest free place, counted across the words in order; the number of places where none is free.
+// stays: their number for none, here and in `lowest_in`: the definition `lowest_free` has it, as trailing zeros do.
 #[tactic(auto, using(crate::proofs::Words::lowest_found, crate::proofs::Words::lowest_full, crate::proofs::Words::lowest_none))]
 pub(crate) fn lowest_free(words: &[u64]) -> usize
     requires { length words.now ≤ word_count }

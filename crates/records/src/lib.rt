@@ -22,6 +22,7 @@ pub use writing::write_record;
 pub const FIELDS: usize = 6;
 
 // An inner field: its tag and its number in so many bytes. Width 0 is the list, which stands beside the fields.
+// stays: width 0 for the list, as the definition `inner` of the table has it.
 #[derive(Clone, Copy, PartialEq, Eq)]
 pub struct Field {
     pub tag: u8,
@@ -30,7 +31,7 @@ pub struct Field {
 }
 
 // The inner fields of a record: those in the first `count` places. Each number has at most eight bytes.
-// stays: a count beside the places, since there is no heap and memory is fixed.
+// stays: a count beside the places, since the number of fields differs by kind, there is no heap and memory is fixed.
 #[derive(Clone, Copy)]
 pub struct Fields {
     count: usize,

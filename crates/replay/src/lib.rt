@@ -11,7 +11,7 @@ use fields::Next;
 use ledger::{Ledger, StepAnswer};
 
 // What becomes of the front of a trace.
-// stays: four states, each told by its name to those who call; as a Result the end, which is no failure, would be an error.
+// stays: four states; as a Result the end, which is no failure, would be an error.
 #[derive(Clone, Copy, PartialEq, Eq)]
 pub enum Front {
     // nothing is left

@@ -32,8 +32,8 @@ pub const LARGEST_CURRENCY: u16 = 999;
 // Who writes: the writer of sheets and batches, or the compactor that merges them.
 #[derive(Clone, Copy, PartialEq, Eq)]
 pub enum Role {
-    Writer = 0,
-    Compactor = 1,
+    Writer,
+    Compactor,
 }
 
 // What a step asks. COMMIT's list stands beside it, in the step.
@@ -100,6 +100,7 @@ pub struct Step {
 #[derive(Clone, Copy, PartialEq, Eq)]
 pub enum Answer {
     // turned away, with the number of the refusal table
+    // stays: a number, since `verdicts::write_verdict` promises its answer for every number.
     Refused(u8),
     // accepted, with the code alone: PUT, COMMIT, COMPACT, HOLD, RENEW, RELEASE
     Done,
@@ -201,7 +202,6 @@ fn is_formed(time: u64, kind: Kind, list: &[u64]) -> bool
 }
 
 // Whether a step is one that a record can say: row 2 of the refusal table does not apply.
-
 pub fn is_well_formed(step: Step) -> bool
     ensures { result ≡ can_say (request_of step) }
 {

@@ -18,7 +18,6 @@ pub const LONGEST_VERDICT: usize = 3 * 3 + 1 + 8 * PLACES;
 const VERDICT_TAG: u8 = 0x40;
 
 // The highest number of the refusal table.
-// stays: `Answer::Refused` holds a number, as `write_verdict` promises its answer for every number.
 const LAST_ROW: u8 = 17;
 
 #[tactic(auto, unfolding(rules::specs::Lists::all))]

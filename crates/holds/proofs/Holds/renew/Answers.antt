@@ -1,4 +1,4 @@
-use Rattle.std.proofs.Common.{arith, sym, ap, ◌∙◌, List, map, length, ◌≡◌}
+use Rattle.std.proofs.Common.{arith, sym, ap, ◌∙◌, List, map, length}
 use lib.ListN.{length-map, length-take}
 use lib.Seq.{take_all}
 use Rattle.rules.specs.declared.Hold.{Hold}

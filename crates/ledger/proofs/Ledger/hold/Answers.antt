@@ -8,9 +8,7 @@ use Rattle.rules.specs.declared.Kind.TheVariants.{Hold as HOLD}
 use Rattle.rules.specs.Lists.{rising_above}
 use Rattle.rules.specs.Step.{act, answers, insert_hold}
 use Rattle.holds.specs.Holds.{numbers}
-use Rattle.holds.proofs.Places as holds
 use Rattle.ledger.specs.Ledger.{view}
-use Rattle.ledger.proofs.View.{sound_parts}
 use Rattle.ledger.proofs.Door.{turned_away}
 use Rattle.ledger.proofs.Live.{live_laid, live-list, live-count}
 use Rattle.ledger.proofs.HoldSteps.{changed_laid, done, live-rising, inserted_length, hold-room}

@@ -5,10 +5,9 @@ use mathlib.Core.Bool.{true}
 use native.Mathlib.Omega.{arith}
 use Rattle.rules.specs.Words.{is_live, active}
 use Rattle.manifests.specs.declared.KeptManifest.{KeptManifest}
-use Rattle.holds.proofs.Places as holds
 use Rattle.ledger.specs.Ledger.{view}
 use Rattle.ledger.proofs.View.{sound_parts}
-use Rattle.ledger.proofs.Live.{live-few, live-number, live-manifest, live-count}
+use Rattle.ledger.proofs.Live.{live-number, live-manifest, live-count}
 use Rattle.ledger.proofs.HoldSteps.{active-current, active-held, not-active, hold_there, hold_inactive, hold-full, hold-free}
 use Rattle.ledger.proofs.Ledger.hold_row.Goals.{After-has_number, Joined-else-manifest-current}
 use Rattle.ledger.proofs.Ledger.hold_row.Goals.{else-manifest-current-via-else-manifest-current, else-manifest-current-via-then-manifest-current+else-not-names_manifest}

@@ -3,9 +3,7 @@
 use mathlib.Core.Path.{sym, ◌∙◌}
 use borrow.Author.Tests.{eq-eqb, ne_eqb}
 use Rattle.rules.specs.Table.{first_of}
-use Rattle.holds.proofs.Places as holds
-use Rattle.ledger.proofs.View.{sound_parts}
-use Rattle.ledger.proofs.Live.{live-few, live-number}
+use Rattle.ledger.proofs.Live.{live-number}
 use Rattle.ledger.proofs.Ledger.live_row.Goals.{then-hold-eq0-via-then-hold-eq0, then-hold-eq0-via-else-hold-eq0+then-has_number}
 use Rattle.ledger.proofs.Ledger.live_row.Goals as goal
 

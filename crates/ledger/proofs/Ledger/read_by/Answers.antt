@@ -3,9 +3,7 @@
 use mathlib.Core.Path.{ap, ◌∙◌}
 use Prim.Native.Nat.{ℕ}
 use Rattle.manifests.specs.Manifests.{lay_manifest, manifests_of, numbered}
-use Rattle.holds.proofs.Places as holds
 use Rattle.ledger.proofs.View.{sized, sound_parts}
-use Rattle.ledger.proofs.Live.{live-few}
 use Rattle.ledger.proofs.HoldSteps.{read-current, read_held}
 use Rattle.ledger.proofs.Ledger.read_by.Goals as goal
 

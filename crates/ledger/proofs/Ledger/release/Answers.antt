@@ -8,11 +8,9 @@ use Rattle.rules.specs.Lists.{keep}
 use Rattle.rules.specs.Step.{act, answers, other}
 use Rattle.rules.specs.Words.{live_holds}
 use Rattle.rules.proofs.Numbers.{keep-length}
-use Rattle.holds.proofs.Places as holds
 use Rattle.ledger.specs.Ledger.{view}
-use Rattle.ledger.proofs.View.{sound_parts}
 use Rattle.ledger.proofs.Door.{turned_away}
-use Rattle.ledger.proofs.Live.{live-few, live-short, live-rows}
+use Rattle.ledger.proofs.Live.{live-short, live-rows}
 use Rattle.ledger.proofs.HoldSteps.{changed_laid, done}
 use Rattle.rules.proofs.Refusals.{not_0}
 use Rattle.ledger.proofs.Ledger.release.Goals as goal

@@ -7,11 +7,9 @@ use lib.ListN.{length-map}
 use Rattle.rules.specs.declared.Kind.TheVariants.{Renew as RENEW}
 use Rattle.rules.specs.Step.{act, answers, renewed}
 use Rattle.rules.specs.Words.{live_holds}
-use Rattle.holds.proofs.Places as holds
 use Rattle.ledger.specs.Ledger.{view}
-use Rattle.ledger.proofs.View.{sound_parts}
 use Rattle.ledger.proofs.Door.{turned_away}
-use Rattle.ledger.proofs.Live.{live-few, live-short, live-rows}
+use Rattle.ledger.proofs.Live.{live-short, live-rows}
 use Rattle.ledger.proofs.HoldSteps.{changed_laid, done}
 use Rattle.rules.proofs.Refusals.{not_0}
 use Rattle.ledger.proofs.Ledger.renew.Goals as goal
