@@ -8,12 +8,13 @@ use Prim.Native.Nat.{ℕ, suc, ◌+◌, ◌-◌, ◌≤◌, ◌<◌}
 use native.Mathlib.Numerals.{add-one}
 use native.Mathlib.Omega.{arith}
 use mathlib.Core.List.{List, ◌∷◌, ◌++◌, append_assoc}
-use Rattle.std.specs.Prelude.{Some, None}
+use Rattle.std.specs.Prelude.{Ok, Err}
 use lib.ListN.{length, take, drop, get_or, set, take-append-drop}
 use lib.Seq.{drop-cons, take-suc-set, drop-set-lt}
 use borrow.Author.Tests.{lt-ltb, le-ltb}
 use Rattle.ledger.specs.declared.Ledger.{Ledger}
 use Rattle.desk.specs.declared.Entry.{Entry}
+use Rattle.desk.specs.declared.SaleError.TheVariants.{Malformed}
 use Rattle.desk.specs.Card.{Filled, filled, entries, after, card_of, answer_of}
 
 module _ (time hold count : ℕ) (ledger : Ledger) (xs : List Entry) where
@@ -26,15 +27,15 @@ module _ (time hold count : ℕ) (ledger : Ledger) (xs : List Entry) where
       let none : count - 0 ≡ count = omega arith in
       record { card_is = rw none; ledger_is = rw none }
 
-  pub refuses : length xs < count → (None ≡ answer_of ledger time hold count xs) × (xs ≡ card_of ledger time hold count xs)
+  pub refuses : length xs < count → (Err Malformed ≡ answer_of ledger time hold count xs) × (xs ≡ card_of ledger time hold count xs)
   unfolding answer_of card_of
   refuses over = (rw lt-ltb, rw lt-ltb)
 
-  pub stops : count ≤ length xs → (i : ℕ) (l : Ledger) (ys : List Entry) → Progress i l ys → count ≤ i → (Some l ≡ answer_of ledger time hold count xs) × (ys ≡ card_of ledger time hold count xs)
+  pub stops : count ≤ length xs → (i : ℕ) (l : Ledger) (ys : List Entry) → Progress i l ys → count ≤ i → (Ok l ≡ answer_of ledger time hold count xs) × (ys ≡ card_of ledger time hold count xs)
   unfolding answer_of card_of entries after
   stops enough i l ys p over =
       let none : count - i ≡ 0 = omega arith in
-      (rw le-ltb (ap Some (rw none at p.ledger_is)), rw le-ltb (sym (take-append-drop i ys) ∙ (rw none at p.card_is)))
+      (rw le-ltb (ap Ok (rw none at p.ledger_is)), rw le-ltb (sym (take-append-drop i ys) ∙ (rw none at p.card_is)))
 
   module _ (i : ℕ) (l : Ledger) (ys : List Entry) (d : Entry) (p : Progress i l ys) (less : i < count) (in-card : i < length ys) (r : Filled) (is : r ≡ filled l time hold (get_or ys i d)) where
     one_less : count - i ≡ suc (count - suc i)

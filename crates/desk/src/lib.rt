@@ -29,12 +29,12 @@ pub struct Looked {
     pub ledger: Ledger,
 }
 
-// Why a sale is refused.
+// Why a sale, or the filling in of a card, is refused.
 #[derive(Clone, Copy, PartialEq, Eq)]
 pub enum SaleError {
     // the ledger refuses the look, with a number of its own
     LookRefused(u8),
-    // the sheet or the fare is malformed
+    // the sheet, the fare or the count is malformed
     Malformed,
     // the sheet is not the one in force
     OtherSheet,
@@ -181,25 +181,25 @@ fn fill_entry(ledger: Ledger, time: u64, hold: u64, entry: &mut Entry) -> Ledger
     answered.ledger
 }
 
-// Fills in the first `count` entries in order, and hands the ledger on from look to look and back. None is a count above the
-// card's length, the paper's number 2: card and ledger stay as they are.
+// Fills in the first `count` entries in order, and hands the ledger on from look to look and back. A count above the card's
+// length is malformed: the number is 2, and card and ledger stay as they are.
 pub fn fill_card(
     ledger: Ledger,
     time: u64,
     hold: u64,
     count: usize,
     card: &mut [Entry],
-) -> Option<Ledger>
+) -> Result<Ledger, SaleError>
     ensures { (result ≡ answer_of ledger time hold count card.old) × (card.new ≡ card_of ledger time hold count card.old) }
 {
     if card.len() < count {
-        return None;
+        return Err(SaleError::Malformed);
     }
     let mut next = ledger;
     for entry in &mut card[..count] {
         next = fill_entry(next, time, hold, entry);
     }
-    Some(next)
+    Ok(next)
 }
 
 // The entries of a row by value.
@@ -219,10 +219,10 @@ pub fn fill_row(
     hold: u64,
     count: usize,
     entries: [Entry; ROW],
-) -> Option<RowFilled>
+) -> Result<RowFilled, SaleError>
     ensures { result ≡ row_of ledger time hold count entries }
 {
     let mut entries = entries;
     let ledger = fill_card(ledger, time, hold, count, &mut entries)?;
-    Some(RowFilled { ledger, entries })
+    Ok(RowFilled { ledger, entries })
 }

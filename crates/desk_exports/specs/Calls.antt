@@ -92,9 +92,9 @@ module _ (ledger : List ℕ) (time hold count : ℕ) (card : List ℕ) where
   abbrev pub unfilled : ℕ → CardCall
   unfilled n = record { answer = n; ledger = ledger; card = card }
 
-  abbrev pub filled_in : Option RowFilled → CardCall
-  filled_in None = unfilled (card_code {A = RowFilled} None)
-  filled_in (Some a) = record { answer = card_code (Some a); ledger = laid_back a.ledger ledger; card = put_filled a.entries count card }
+  abbrev pub filled_in : Result RowFilled SaleError → CardCall
+  filled_in (Err e) = unfilled (card_code {A = RowFilled} (Err e))
+  filled_in (Ok a) = record { answer = card_code (Ok a); ledger = laid_back a.ledger ledger; card = put_filled a.entries count card }
 
   -- 3 where the ledger's numbers are too few or the card is too long; 2 where it has fewer entries than the count
   unfoldable pub fill_card : CardCall

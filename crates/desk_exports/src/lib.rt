@@ -152,10 +152,12 @@ pub fn cuudhaqil_fill_card(
     }
     let old = ledger_numbers::ledger_from(ledger);
     let row = row_from(card, n);
-    let Some(filled) = desk::fill_row(old, time, hold, n, row) else {
-        return MALFORMED;
-    };
-    ledger_numbers::lay_back(filled.ledger, ledger);
-    put_filled(&filled.entries, n, card);
-    0
+    match desk::fill_row(old, time, hold, n, row) {
+        Ok(filled) => {
+            ledger_numbers::lay_back(filled.ledger, ledger);
+            put_filled(&filled.entries, n, card);
+            0
+        }
+        Err(error) => u64::from(error.number()),
+    }
 }

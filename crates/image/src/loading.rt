@@ -1,10 +1,12 @@
 // An image read: its rows in their order, and nothing behind them.
 ghost use Rattle.std.specs.Prelude.{◌≡◌, ◌≤◌, length, replicate};
+ghost use Rattle.std.specs.Result.{result_unwrap_or};
 ghost use Rattle.rules.specs.Limits.{limits};
-ghost use Rattle.rules.specs.State.{free};
+ghost use Rattle.rules.specs.State.{free, fresh};
+ghost use Rattle.ledger.specs.Ledger.{lay};
 ghost use Rattle.objects.specs.Objects.{lay_places};
 ghost use Rattle.image.specs.Rows.{rows_from};
-ghost use Rattle.image.specs.Reading.{objects_of, places_of, read_of};
+ghost use Rattle.image.specs.Reading.{objects_of, places_of, read_of, ledger_beside};
 ghost use Rattle.image.specs.Code.{Filled, rows_read};
 
 use crate::entries::{CLOCK, COLLECTED, EDITION, OBJECT_ROW, Packed, spot_at};
@@ -73,10 +75,11 @@ fn read_rows(s: &[u8]) -> Option<Ledger>
     Some(ledger)
 }
 
-// Takes all the bytes lent as one image.
+// Takes all the bytes lent as one image. Who is to have a ledger either way has the fresh one beside a refusal.
 #[inline(never)]
 pub fn read_image(bytes: &[u8]) -> Result<Ledger, LoadError>
-    ensures { result ≡ read_of bytes.now }
+    ensures is { result ≡ read_of bytes.now }
+    ensures beside { result_unwrap_or result (lay fresh) ≡ ledger_beside bytes.now }
 {
     if !records::is_whole(bytes) || bytes[0] != IMAGE_TAG {
         return Err(LoadError::Malformed);

@@ -1,7 +1,7 @@
 // The inner fields of records: the table of their tags, and a record's fields in their places.
-ghost use Rattle.std.specs.Prelude.{◌≡◌, ◌≤◌, true};
+ghost use Rattle.std.specs.Prelude.{◌≡◌, ◌≤◌, ◌++◌, ◌-◌, true, replicate};
 ghost use Rattle.rules.specs.Lists.{all};
-ghost use Rattle.records.specs.Format.{inner, is_narrow, role_code};
+ghost use Rattle.records.specs.Format.{inner, is_narrow, most_fields, role_code};
 ghost use Rattle.records.specs.Found.{fields_in};
 
 use crate::{FIELDS, Field, Fields};
@@ -56,11 +56,12 @@ pub fn role_number(who: Role) -> u64
     }
 }
 
-// A record of these fields.
+// A record of these fields; the places behind them are 0.
 pub fn fields_of<const N: usize>(first: [Field; N]) -> Fields
     requires few { N ≤ FIELDS }
     requires narrow { all is_narrow first ≡ true }
-    ensures { fields_in result ≡ first.entry }
+    ensures said { fields_in result ≡ first.entry }
+    ensures places { result.items ≡ first.entry ++ replicate (most_fields - N) (inner 0 0 0) }
 {
     let blank = Field {
         tag: 0,

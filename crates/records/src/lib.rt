@@ -34,8 +34,8 @@ pub struct Field {
 // stays: a count beside the places, since the number of fields differs by kind, there is no heap and memory is fixed.
 #[derive(Clone, Copy)]
 pub struct Fields {
-    count: usize,
-    items: [Field; FIELDS],
+    pub count: usize,
+    pub items: [Field; FIELDS],
     ghost few: { count ≤ most_fields },
     ghost narrow: { all is_narrow (take count items) ≡ true },
 }

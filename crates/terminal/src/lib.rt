@@ -10,7 +10,7 @@ use std::io::Read;
 const LONGEST: usize = 65536;
 
 // A byte more: an input that fills it is too long.
-const ROOM: usize = LONGEST + 1;
+pub const ROOM: usize = LONGEST + 1;
 
 // A write that fails is passed over.
 pub fn say(rt: &impl Print, text: &[u8]) {

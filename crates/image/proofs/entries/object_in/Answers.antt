@@ -32,14 +32,14 @@ by_role p v e h = rw (eq-eqb (get_or v 0 0) p e, le-leb (get_or v 5 0) 1 h) (by 
     by false false q r = rw (lt-leb n 1 (omega (arith, eqb-false n 0 q, eqb-false n 1 r)))
 
 here : (c : Else-named-gt1) → object_in c.args.place (record { numbers = c.args.columns; names = [] }) ≡ option_map (object c.args.columns) (role_of (get_or c.args.columns 2 0))
-here c = by_role c.args.place c.args.columns c.if-at-place.false c.if-named-gt1.false
+here c = by_role c.args.place c.args.columns (omega (arith, c.if-at-place.false)) c.if-named-gt1.false
 
 pub returns-then-at-place : goal.returns-then-at-place
 unfolding is_object_at conj
 returns-then-at-place c =
     let v = c.args.columns in
     elim c.then-at-place.branch [
-      | then-at-place-via-then-at-place w ↦ rw (ne_eqb (get_or v 0 0) c.args.place w.if-at-place.true)
+      | then-at-place-via-then-at-place w ↦ rw (ne_eqb (get_or v 0 0) c.args.place (λ e. omega (arith, e, w.if-at-place.true)))
       | then-at-place-via-else-at-place+then-named-gt1 w ↦ rw (lt-leb (get_or v 5 0) 1 w.if-named-gt1.true, and-false (leb (get_or v 2 0) 1), and-false (eqb (get_or v 0 0) c.args.place))
     ]
 
