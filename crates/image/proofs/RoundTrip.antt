@@ -44,8 +44,8 @@ refuses bs bytes never = by (is_image bs) (is_sound l) refl refl
 
     by : (b t : Bool) → is_image bs ≡ b → is_sound (ledger_in (drop 3 bs)) ≡ t → ((read_of bs ≡ Err Unsound) ⊎ (read_of bs ≡ Err Malformed)) × (ledger_beside bs ≡ lay fresh)
     by true true e f = let r = image_read bs e f in absurd (never (view l) (sound-view l f) (read_fits bs l bytes r) (writes_read_lem bs l bytes r).1)
-    by true false e f = let r = image_refused bs e f in (inl r, rw r)
-    by false t e f = let r = refused-by bs e in (inr r, rw r)
+    by true false e f = let r = image_refused bs e f in (inl r, rw (ledger_beside, r))
+    by false t e f = let r = refused-by bs e in (inr r, rw (ledger_beside, r))
 
 pub image_round_trip : ImageRoundTrip
 image_round_trip = record {

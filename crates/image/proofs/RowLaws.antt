@@ -171,6 +171,15 @@ module _ (f : Format) (bs : List ℕ) where
       by None e z = cc
       by (Some n) e z = let same : present f bs n ≡ r = cc in subst P same (there n (head-formed f.tag (total f.widths) f.names bs n e))
 
+  -- and of every row, where it holds of none
+  row_any : (P : Option (Found Cells) → Type 0) → ((n : ℕ) → Formed f.tag (total f.widths) f.names bs n → P (Some (present f bs n))) → P None → P (row_at f bs)
+  unfolding row_at
+  row_any P there none = by found-head refl
+    where
+      by : (d : Option ℕ) → found-head ≡ d → P (option_map (present f bs) d)
+      by None e = none
+      by (Some n) e = there n (head-formed f.tag (total f.widths) f.names bs n e)
+
 -- ---- a row
 
 -- what a row says fits its form
